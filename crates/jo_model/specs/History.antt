@@ -1,0 +1,90 @@
+-- Legal histories of the calls of several passes.
+use Rattle.std.specs.Prelude.{◌≡◌, ◌⊎◌, ℕ, ◌+◌, ◌*◌, ◌<◌, ◌≤◌, ◌==◌, ◌&&◌, Bool, true, false, List, [], ◌∷◌, ◌++◌, fold, filter, map, if◌then◌else◌}
+use Rattle.jo_value.specs.declared.limits.TheConstants.{MOST_STORAGE, MOST_SPENT}
+use Rattle.jo_model.specs.declared.call.Call.{Call}
+use Rattle.jo_model.specs.declared.call.Call.TheVariants as call
+use Rattle.jo_model.specs.declared.call.Reply.{Reply}
+use Rattle.jo_model.specs.declared.call.Reply.TheVariants as reply
+use Rattle.jo_model.specs.declared.call.Spent.{Spent}
+use Rattle.jo_model.specs.Objects.{property, has_property}
+use Rattle.jo_model.specs.Heaps.{Heap, heap_at_start, object_of}
+use Rattle.jo_model.specs.One.{one, is_found_as}
+
+-- a call of a pass, with its reply
+pub record Entry : Type 0 where
+  pub pass : ℕ
+  pub call : Call
+  pub reply : Reply
+
+-- A history is a list of them.
+abbrev pub History : Type 0
+History = List Entry
+
+-- whether an answered call is a change of the heap
+abbrev pub is_change : Heap → Call → Reply → Bool
+is_change heap call.New (reply.Made o) = true
+is_change heap (call.Put o key value) reply.Done = true
+is_change heap (call.Delete o key) (reply.Flag b) = has_property (object_of heap o) key
+is_change heap (call.Cas o key expected desired) (reply.Found v) = is_found_as (property (object_of heap o) key) expected
+is_change heap _ _ = false
+
+-- the new heap, unless no storage was left: then the old one
+abbrev pub unless_spent : Reply → Heap → Heap → Heap
+unless_spent (reply.Spent spent) old new = old
+unless_spent _ old new = new
+
+-- the heap after an entry; a call for which no storage was left changes nothing
+abbrev pub after_entry : Heap → Entry → Heap
+after_entry heap e = unless_spent e.reply heap (one heap e.pass e.call).0
+
+-- the heap after a history
+abbrev pub heap_after : ℕ → History → Heap
+heap_after passes w = fold after_entry (heap_at_start passes) w
+
+-- how many changes a pass makes in a history that begins at this heap
+abbrev pub changes_by : ℕ → Heap → History → ℕ
+changes_by pass heap [] = 0
+changes_by pass heap (e ∷ w) =
+    (if e.pass == pass && is_change heap e.call e.reply then 1 else 0) + changes_by pass (after_entry heap e) w
+
+-- the calls that may take storage
+abbrev pub MayTakeStorage : Call → Type 0
+MayTakeStorage (call.Put o key value) = Unit {0}
+MayTakeStorage (call.Delete o key) = Unit {0}
+MayTakeStorage _ = ⊥
+
+-- A refusal for want of storage is lawful where what was used and what is needed are more than a pass has,
+-- and where neither is more than a call, and as many calls as the pass has made changes, can take.
+pub record IsOutOfStorage (changes : ℕ) (call : Call) (answer : Reply) : Type 0 where
+  pub spent : Spent
+  pub answered : answer ≡ reply.Spent spent
+  pub takes : MayTakeStorage call
+  pub over : MOST_STORAGE < spent.used + spent.need
+  pub need : spent.need ≤ MOST_SPENT
+  pub used : spent.used ≤ MOST_SPENT * changes
+
+-- An entry is lawful after others: its pass is one of the heap's, and its reply is that of one thread,
+-- or a lawful refusal for want of storage.
+pub record IsLawful (passes : ℕ) (before : History) (e : Entry) : Type 0 where
+  pub pass : e.pass < passes
+  pub reply : (e.reply ≡ (one (heap_after passes before) e.pass e.call).1)
+      ⊎ IsOutOfStorage (changes_by e.pass (heap_at_start passes) before) e.call e.reply
+
+-- each entry is lawful after these and those before it
+abbrev pub IsLegalAfter : ℕ → History → History → Type 0
+IsLegalAfter passes before [] = Unit {0}
+IsLegalAfter passes before (e ∷ w) = IsLawful passes before e × IsLegalAfter passes (before ++ e ∷ []) w
+
+-- A history is legal where each entry is lawful after those before it.
+abbrev pub IsLegal : ℕ → History → Type 0
+IsLegal passes w = IsLegalAfter passes [] w
+
+-- the entries of a pass, in their order
+abbrev pub entries_of : ℕ → History → History
+entries_of pass w = filter (λ e. e.pass == pass) w
+
+abbrev pub calls_of : ℕ → History → List Call
+calls_of pass w = map (λ e. e.call) (entries_of pass w)
+
+abbrev pub replies_of : ℕ → History → List Reply
+replies_of pass w = map (λ e. e.reply) (entries_of pass w)

@@ -1,0 +1,10 @@
+pub mod Objects
+pub mod Heaps
+pub mod One
+pub mod History
+pub mod Placed
+pub mod Meaning
+pub mod Runs
+pub mod Output
+pub mod Calls
+pub mod Plain

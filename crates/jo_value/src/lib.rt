@@ -1,0 +1,12 @@
+//! Values, keys, the table of texts, and the limits that everything above keeps.
+#![tactic(auto)]
+
+mod limits;
+mod texts;
+mod value;
+
+pub use limits::{
+    MOST_NAMES, MOST_NUMBER, MOST_OBJECTS, MOST_SPENT, MOST_STORAGE, MOST_TEXT_BYTES, MOST_TEXTS,
+};
+pub use texts::{InternFault, Texts};
+pub use value::{Key, NameId, ObjId, TextId, Value};

@@ -1,0 +1,22 @@
+// The limits. All of them are this project's own.
+
+/// The most texts of a table.
+pub const MOST_TEXTS: usize = 65_535;
+
+/// The most bytes of one word or text of a script.
+pub const MOST_TEXT_BYTES: usize = 255;
+
+/// The largest number, which is that of `Number.MAX_SAFE_INTEGER`; the least one is its negative.
+pub const MOST_NUMBER: u64 = 9_007_199_254_740_991;
+
+/// The most names that an object has at once.
+pub const MOST_NAMES: usize = 64;
+
+/// The most objects of a pass.
+pub const MOST_OBJECTS: usize = 4_096;
+
+/// The words of storage of a pass.
+pub const MOST_STORAGE: u32 = 1_048_576;
+
+/// The most words of storage that one call takes.
+pub const MOST_SPENT: u32 = 2_300;
