@@ -1,5 +1,4 @@
 -- What a call names.
-use Rattle.std.specs.Prelude.{ℕ}
 use Rattle.jo_model.specs.declared.call.Call.{Call}
 use Rattle.jo_model.specs.declared.call.Call.TheVariants.{New, Get, Has, Names, Put, Delete, Cas}
 use Rattle.jo_model.specs.Heaps.{Heap, IsBorn}

@@ -8,3 +8,4 @@ pub mod Runs
 pub mod Output
 pub mod Calls
 pub mod Plain
+pub mod Names

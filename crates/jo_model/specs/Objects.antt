@@ -1,5 +1,5 @@
 -- An ordinary object (ECMA-262): its properties, in the order of its own keys.
-use Rattle.std.specs.Prelude.{ℕ, ◌+◌, ◌==◌, nat_lt, nat_le, Bool, false, List, [], ◌∷◌, ◌++◌, length, count_by, insert, remove, slice_get, slice_set, Option, is_some, option_map, unwrap_or}
+use Rattle.std.specs.Prelude.{ℕ, ◌==◌, nat_lt, nat_le, Bool, false, List, [], ◌∷◌, ◌++◌, length, count_by, insert, remove, slice_get, slice_set, Option, is_some, option_map, unwrap_or}
 use Rattle.std.specs.List.{position_or_len}
 use Rattle.jo_value.specs.declared.limits.TheConstants.{MOST_NAMES}
 use Rattle.jo_value.specs.declared.value.NameId.{NameId}

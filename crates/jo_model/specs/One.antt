@@ -1,5 +1,5 @@
 -- What a call does where there is one thread.
-use Rattle.std.specs.Prelude.{ℕ, nat_lt, Bool, true, false, List, length, map, Option, Some, None, if◌then◌else◌}
+use Rattle.std.specs.Prelude.{ℕ, nat_lt, Bool, true, false, length, map, Option, Some, None, if◌then◌else◌}
 use Rattle.jo_value.specs.declared.limits.TheConstants.{MOST_OBJECTS}
 use Rattle.jo_value.specs.declared.value.Value.{Value}
 use Rattle.jo_value.specs.Values.{is_strictly_equal}

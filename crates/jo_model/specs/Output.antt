@@ -11,7 +11,7 @@ use Rattle.jo_model.specs.declared.script.Script.{Script}
 use Rattle.jo_model.specs.Objects.{Object}
 use Rattle.jo_model.specs.Heaps.{Heap}
 use Rattle.jo_model.specs.History.{History, IsLegal, heap_after, calls_of, replies_of}
-use Rattle.jo_model.specs.Runs.{Run, Stand, Waits, Ended}
+use Rattle.jo_model.specs.Runs.{Lines, Run, Stand, Waits, Ended}
 use Rattle.jo_model.specs.Meaning.{text_in, object_text, value_text, joined, does}
 
 -- what script number t does in a history, where its pass is t
@@ -47,12 +47,13 @@ abbrev pub stand_text : Stand → List ℕ
 stand_text (Ended outcome) = outcome_text outcome
 stand_text (Waits call) = []
 
--- a printed line of script number t, and the line of its outcome
+-- a printed line of script number t
 abbrev pub line_text : ℕ → List ℕ → List ℕ
 line_text t line = decimal t ++ codes "| " ++ line ++ codes "\n"
 
-abbrev pub run_text : ℕ → Run → List ℕ
-run_text t run = flat_map (line_text t) run.lines ++ decimal t ++ codes "= " ++ stand_text run.stand ++ codes "\n"
+-- the printed lines of script number t, and the line of its outcome
+abbrev pub run_text : ℕ → Lines → Stand → List ℕ
+run_text t lines stand = flat_map (line_text t) lines ++ decimal t ++ codes "= " ++ stand_text stand ++ codes "\n"
 
 -- a text between double quotes, with a backslash before each backslash and each double quote
 abbrev pub quoted : List ℕ → List ℕ
@@ -80,7 +81,11 @@ object_line texts pass o =
 abbrev pub heap_text : Table → Heap → List ℕ
 heap_text texts heap = flat_map (λ p. flat_map (object_line texts p.0) (enumerate_from 0 p.1)) (enumerate_from 0 heap)
 
+-- the part of script number t, by what it does in a history
+abbrev pub script_text : Table → History → ℕ × Script → List ℕ
+script_text texts w s = run_text s.0 (run_in w s.0 s.1 texts).lines (run_in w s.0 s.1 texts).stand
+
 -- The output text of scripts with this history: for each script its lines and its outcome, then all objects at the end.
 abbrev pub output : List Script → Table → History → List ℕ
 output scripts texts w =
-    flat_map (λ s. run_text s.0 (run_in w s.0 s.1 texts)) (enumerate_from 1 scripts) ++ heap_text texts (heap_after (length scripts + 1) w)
+    flat_map (script_text texts w) (enumerate_from 1 scripts) ++ heap_text texts (heap_after (length scripts + 1) w)

@@ -1,11 +1,11 @@
 -- Calls that have a place among the changes of the heap, and the history that they make.
-use Rattle.std.specs.Prelude.{◌≡◌, ◌≢◌, ◌⊎◌, ℕ, ◌+◌, ◌≤◌, ◌==◌, ◌&&◌, not, Bool, true, false, List, [], ◌∷◌, ◌++◌, length, fold, filter, map, flat_map, take, slice_get, Some, count_by}
+use Rattle.std.specs.Prelude.{◌≡◌, ◌⊎◌, ℕ, ◌+◌, ◌≤◌, ◌==◌, ◌&&◌, not, true, false, List, [], ◌∷◌, ◌++◌, length, fold, filter, map, flat_map, take, slice_get, Some, count_by}
 use Rattle.std.specs.List.{enumerate_from}
 use Rattle.jo_model.specs.declared.call.Call.{Call}
 use Rattle.jo_model.specs.declared.call.Reply.{Reply}
 use Rattle.jo_model.specs.Heaps.{Heap, heap_at_start}
 use Rattle.jo_model.specs.One.{one}
-use Rattle.jo_model.specs.History.{Entry, History, is_change, IsOutOfStorage}
+use Rattle.jo_model.specs.History.{History, is_change, IsOutOfStorage}
 
 -- a change of the heap: a call of a pass that changed it
 pub record Change : Type 0 where

@@ -21,9 +21,13 @@ pub struct PlainHeap {
 impl Model for PlainHeap {
     ghost use Rattle.jo_model.specs.Heaps.{Heap};
 
+    ghost use Rattle.std.specs.Prelude.{length, ◌<◌, ◌^◌};
+
     ghost Value = { Heap };
 
     ghost view = { λ heap. heap.passes.items };
+
+    ghost invariant = { λ heap. length heap.passes.items < 2 ^ 8 };
 }
 
 impl PlainHeap {
@@ -82,6 +86,13 @@ impl PlainHeap {
     {
         let pass = &mut self.passes[usize::from(o.pass)];
         pass.put(o.number, key, value)
+    }
+
+    /// How many passes the heap has.
+    pub fn passes(&self) -> u8
+        ensures { result ≡ length self.now }
+    {
+        self.passes.len() as u8
     }
 
     /// The objects of a pass, in order of number; none of a pass that the heap has not.
