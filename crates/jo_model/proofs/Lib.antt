@@ -1,2 +1,3 @@
 pub mod Passes
 pub mod Putting
+pub mod Alone

@@ -36,18 +36,19 @@ follow (Ends outcome lines) replies = record { calls = []; lines = lines; stand 
 follow (Asks c lines answered) [] = record { calls = []; lines = lines; stand = Waits c }
 follow (Asks c lines answered) (r ∷ replies) = after_call c (follow (answered r) replies)
 
--- a run of one pass alone to its end: its history, the heap after it, the lines and the outcome
-pub record Played : Type 0 where
-  pub history : History
+-- what a run leaves: the heap, the lines and the outcome
+pub record End : Type 0 where
   pub heap : Heap
   pub lines : Lines
   pub outcome : Outcome
 
-abbrev pub behind_call : ℕ → Call → Reply → Played → Played
-behind_call pass c r played = record played { history = record { pass = pass; call = c; reply = r } ∷ played.history }
+-- the end of the run of a pass alone from this heap, where each reply is that of one thread
+abbrev pub end_of : ℕ → Interaction → Heap → End
+end_of pass (Ends outcome lines) heap = record { heap = heap; lines = lines; outcome = outcome }
+end_of pass (Asks c lines answered) heap = end_of pass (answered (one heap pass c).1) (one heap pass c).0
 
--- the run of a pass alone from this heap, where each reply is that of one thread
-abbrev pub play : ℕ → Interaction → Heap → Played
-play pass (Ends outcome lines) heap = record { history = []; heap = heap; lines = lines; outcome = outcome }
-play pass (Asks c lines answered) heap =
-    behind_call pass c (one heap pass c).1 (play pass (answered (one heap pass c).1) (one heap pass c).0)
+-- the history of that run
+abbrev pub history_of : ℕ → Interaction → Heap → History
+history_of pass (Ends outcome lines) heap = []
+history_of pass (Asks c lines answered) heap =
+    record { pass = pass; call = c; reply = (one heap pass c).1 } ∷ history_of pass (answered (one heap pass c).1) (one heap pass c).0

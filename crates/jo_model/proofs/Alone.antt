@@ -1,0 +1,121 @@
+-- The run of a pass alone, with the replies of one thread, is a legal history of its script.
+use Rattle.std.proofs.Common.{◌≡◌, ℕ, zero, suc, ◌+◌, ◌<◌, subst, List, [], ◌∷◌, ◌++◌, Bool, true, false, refl, sym, ap, ◌∙◌, inl, append_assoc, lit<}
+use Rattle.std.specs.Prelude.{fold, map, length, nat_lt, if◌then◌else◌, slice_get, Some}
+use Rattle.std.proofs.lemmas.List.{append-nil}
+use Rattle.std.proofs.lemmas.List.Sums.{fold-append}
+use Rattle.jo_value.specs.declared.limits.TheConstants.{MOST_OBJECTS}
+use Rattle.jo_value.specs.Texts.{Table}
+use Rattle.jo_model.specs.declared.call.Call.{Call}
+use Rattle.jo_model.specs.declared.call.Call.TheVariants as call
+use Rattle.jo_model.specs.declared.call.Reply.{Reply}
+use Rattle.jo_model.specs.declared.call.Reply.TheVariants as reply
+use Rattle.jo_model.specs.declared.call.Outcome.{Outcome}
+use Rattle.jo_model.specs.declared.script.Script.{Script}
+use Rattle.jo_model.specs.Objects.{property, has_property, value_of, is_full_for, with_value, with_property}
+use Rattle.jo_model.specs.Heaps.{Heap, heap_at_start, objects_of, object_of, with_object, with_new_object}
+use Rattle.jo_model.specs.One.{one, is_found_as}
+use Rattle.jo_model.specs.History.{Entry, History, after_entry, heap_after, unless_spent, IsLegalAfter, IsLegal, entries_of, calls_of, replies_of}
+use Rattle.jo_model.specs.Runs.{Interaction, Ends, Asks, Run, Ended, End, after_call, follow, end_of, history_of}
+use Rattle.jo_model.specs.Meaning.{interaction_of}
+use Rattle.jo_model.specs.Output.{run_in, IsRunIn, IsHistoryOf}
+
+cond_spent : (b : Bool) (x y : Heap × Reply) (old new : Heap) → unless_spent x.1 old new ≡ new → unless_spent y.1 old new ≡ new → unless_spent (if b then x else y).1 old new ≡ new
+cond_spent true x y old new p q = p
+cond_spent false x y old new p q = q
+
+-- one thread never runs out of storage
+never_spent : (heap : Heap) (pass : ℕ) (c : Call) (old new : Heap) → unless_spent (one heap pass c).1 old new ≡ new
+never_spent heap pass call.New old new =
+    cond_spent (nat_lt (length (objects_of heap pass)) MOST_OBJECTS)
+    (with_new_object heap pass, reply.Made (record { pass = pass; number = length (objects_of heap pass) })) (heap, reply.ObjectsSpent) old new refl refl
+never_spent heap pass (call.Get o key) old new = refl
+never_spent heap pass (call.Has o key) old new = refl
+never_spent heap pass (call.Names o) old new = refl
+never_spent heap pass (call.Put o key value) old new =
+    let object = object_of heap o in
+    let more : Heap × Reply = (with_object heap o (with_property object key value), reply.Done) in
+    let full : Heap × Reply = (heap, reply.TooManyNames) in
+    cond_spent (has_property object key) (with_object heap o (with_value object key value), reply.Done) (if is_full_for object key then full else more) old new
+    refl (cond_spent (is_full_for object key) full more old new refl refl)
+never_spent heap pass (call.Delete o key) old new = refl
+never_spent heap pass (call.Cas o key expected desired) old new =
+    let object = object_of heap o in
+    cond_spent (is_found_as (property object key) expected)
+    (with_object heap o (with_value object key desired), reply.Found (value_of object key)) (heap, reply.Found (value_of object key)) old new refl refl
+
+abbrev entry_of : Heap → ℕ → Call → Entry
+entry_of heap pass c = record { pass = pass; call = c; reply = (one heap pass c).1 }
+
+-- the heap after one more call
+after_one : (passes : ℕ) (before : History) (heap : Heap) (pass : ℕ) (c : Call) → heap_after passes before ≡ heap →
+    heap_after passes (before ++ entry_of heap pass c ∷ []) ≡ (one heap pass c).0
+after_one passes before heap pass c e =
+    fold-append after_entry (heap_at_start passes) before (entry_of heap pass c ∷ [])
+    ∙ ap (λ h. after_entry h (entry_of heap pass c)) e
+    ∙ never_spent heap pass c heap (one heap pass c).0
+
+pub legal : (passes pass : ℕ) → pass < passes → (t : Interaction) (heap : Heap) (before : History) → heap_after passes before ≡ heap → IsLegalAfter passes before (history_of pass t heap)
+legal passes pass lt (Ends outcome lines) heap before e = tt
+legal passes pass lt (Asks c lines answered) heap before e = (
+  record { pass = lt; reply = inl (ap (λ h. (one h pass c).1) (sym e)) },
+  legal passes pass lt (answered (one heap pass c).1) (one heap pass c).0 (before ++ entry_of heap pass c ∷ []) (after_one passes before heap pass c e),
+)
+
+pub heap_after-history_of : (passes pass : ℕ) (t : Interaction) (heap : Heap) (before : History) → heap_after passes before ≡ heap →
+    heap_after passes (before ++ history_of pass t heap) ≡ (end_of pass t heap).heap
+heap_after-history_of passes pass (Ends outcome lines) heap before e = ap (heap_after passes) (append-nil before) ∙ e
+heap_after-history_of passes pass (Asks c lines answered) heap before e =
+    ap (heap_after passes) (sym (append_assoc before (entry_of heap pass c ∷ []) _))
+    ∙ heap_after-history_of passes pass (answered (one heap pass c).1) (one heap pass c).0 (before ++ entry_of heap pass c ∷ []) (after_one passes before heap pass c e)
+
+-- the calls, the lines and the end of the run are those of the script at its replies
+pub follow-history_of : (pass : ℕ) (t : Interaction) (heap : Heap) → follow t (map (λ e. e.reply) (history_of pass t heap))
+    ≡ record { calls = map (λ e. e.call) (history_of pass t heap); lines = (end_of pass t heap).lines; stand = Ended (end_of pass t heap).outcome }
+follow-history_of pass (Ends outcome lines) heap = refl
+follow-history_of pass (Asks c lines answered) heap = ap (after_call c) (follow-history_of pass (answered (one heap pass c).1) (one heap pass c).0)
+
+-- all its calls are those of pass 1, and none is of pass 0
+pub entries_of-alone : (t : Interaction) (heap : Heap) → entries_of 1 (history_of 1 t heap) ≡ history_of 1 t heap
+entries_of-alone (Ends outcome lines) heap = refl
+entries_of-alone (Asks c lines answered) heap = ap (λ w. entry_of heap 1 c ∷ w) (entries_of-alone (answered (one heap 1 c).1) (one heap 1 c).0)
+
+setup : (t : Interaction) (heap : Heap) → entries_of 0 (history_of 1 t heap) ≡ []
+setup (Ends outcome lines) heap = refl
+setup (Asks c lines answered) heap = setup (answered (one heap 1 c).1) (one heap 1 c).0
+
+-- a list of one script
+each_of_one : (script : Script) (texts : Table) (outcome : Outcome) (w : History) → IsRunIn w 1 script texts outcome →
+    (k : ℕ) (s : Script) → slice_get (script ∷ []) k ≡ Some s → (o : Outcome) × (slice_get (outcome ∷ []) k ≡ Some o) × IsRunIn w (k + 1) s texts o
+each_of_one script texts outcome w run zero s e =
+    let same : script ≡ s = cc in
+    (outcome, refl, let P : Script → Type 0 = λ x. IsRunIn w 1 x texts outcome in subst P same run)
+each_of_one script texts outcome w run (suc k) s e = let no : ⊥ = cc in absurd no
+
+module _ (script : Script) (texts : Table) where
+  abbrev pub end_alone : End
+  end_alone = end_of 1 (interaction_of script texts) (heap_at_start 2)
+
+  abbrev pub history_alone : History
+  history_alone = history_of 1 (interaction_of script texts) (heap_at_start 2)
+
+  run_alone : run_in history_alone 1 script texts ≡ record { calls = map (λ e. e.call) history_alone; lines = end_alone.lines; stand = Ended end_alone.outcome }
+  run_alone =
+      ap (λ w. follow (interaction_of script texts) (map (λ e. e.reply) w)) (entries_of-alone (interaction_of script texts) (heap_at_start 2))
+      ∙ follow-history_of 1 (interaction_of script texts) (heap_at_start 2)
+
+  -- it is a history of its script, beside pass 0
+  pub history_of_script : IsHistoryOf (script ∷ []) texts (end_alone.outcome ∷ []) history_alone
+  history_of_script = record {
+    legal = legal 2 1 (lit< tt) (interaction_of script texts) (heap_at_start 2) [] refl;
+    setup = ap (map (λ e. e.call)) (setup (interaction_of script texts) (heap_at_start 2));
+    each = each_of_one script texts end_alone.outcome history_alone (record {
+      calls = ap (map (λ e. e.call)) (entries_of-alone (interaction_of script texts) (heap_at_start 2)) ∙ ap (λ r. r.calls) (sym run_alone);
+      ended = ap (λ r. r.stand) run_alone;
+    });
+  }
+
+  pub lines_alone : end_alone.lines ≡ (run_in history_alone 1 script texts).lines
+  lines_alone = ap (λ r. r.lines) (sym run_alone)
+
+  pub heap_alone : end_alone.heap ≡ heap_after 2 history_alone
+  heap_alone = sym (heap_after-history_of 2 1 (interaction_of script texts) (heap_at_start 2) [] refl)
