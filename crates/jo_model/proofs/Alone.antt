@@ -1,47 +1,19 @@
 -- The run of a pass alone, with the replies of one thread, is a legal history of its script.
-use Rattle.std.proofs.Common.{◌≡◌, ℕ, zero, suc, ◌+◌, ◌<◌, subst, List, [], ◌∷◌, ◌++◌, Bool, true, false, refl, sym, ap, ◌∙◌, inl, append_assoc, lit<}
-use Rattle.std.specs.Prelude.{fold, map, length, nat_lt, if◌then◌else◌, slice_get, Some}
+use Rattle.std.proofs.Common.{◌≡◌, ℕ, zero, suc, ◌+◌, ◌<◌, subst, [], ◌∷◌, ◌++◌, refl, sym, ap, ◌∙◌, inl, append_assoc, lit<}
+use Rattle.std.specs.Prelude.{map, slice_get, Some}
 use Rattle.std.proofs.lemmas.List.{append-nil}
 use Rattle.std.proofs.lemmas.List.Sums.{fold-append}
-use Rattle.jo_value.specs.declared.limits.TheConstants.{MOST_OBJECTS}
 use Rattle.jo_value.specs.Texts.{Table}
 use Rattle.jo_model.specs.declared.call.Call.{Call}
-use Rattle.jo_model.specs.declared.call.Call.TheVariants as call
-use Rattle.jo_model.specs.declared.call.Reply.{Reply}
-use Rattle.jo_model.specs.declared.call.Reply.TheVariants as reply
 use Rattle.jo_model.specs.declared.call.Outcome.{Outcome}
 use Rattle.jo_model.specs.declared.script.Script.{Script}
-use Rattle.jo_model.specs.Objects.{property, has_property, value_of, is_full_for, with_value, with_property}
-use Rattle.jo_model.specs.Heaps.{Heap, heap_at_start, objects_of, object_of, with_object, with_new_object}
-use Rattle.jo_model.specs.One.{one, is_found_as}
-use Rattle.jo_model.specs.History.{Entry, History, after_entry, heap_after, unless_spent, IsLegalAfter, IsLegal, entries_of, calls_of, replies_of}
-use Rattle.jo_model.specs.Runs.{Interaction, Ends, Asks, Run, Ended, End, after_call, follow, end_of, history_of}
+use Rattle.jo_model.specs.Heaps.{Heap, heap_at_start}
+use Rattle.jo_model.specs.One.{one}
+use Rattle.jo_model.specs.History.{Entry, History, after_entry, heap_after, IsLegalAfter, entries_of}
+use Rattle.jo_model.specs.Runs.{Interaction, Ends, Asks, Ended, End, with_call_first, follow, end_of, history_of}
 use Rattle.jo_model.specs.Meaning.{interaction_of}
+use Rattle.jo_model.proofs.LegalSteps.{kept}
 use Rattle.jo_model.specs.Output.{run_in, IsRunIn, IsHistoryOf}
-
-cond_spent : (b : Bool) (x y : Heap × Reply) (old new : Heap) → unless_spent x.1 old new ≡ new → unless_spent y.1 old new ≡ new → unless_spent (if b then x else y).1 old new ≡ new
-cond_spent true x y old new p q = p
-cond_spent false x y old new p q = q
-
--- one thread never runs out of storage
-never_spent : (heap : Heap) (pass : ℕ) (c : Call) (old new : Heap) → unless_spent (one heap pass c).1 old new ≡ new
-never_spent heap pass call.New old new =
-    cond_spent (nat_lt (length (objects_of heap pass)) MOST_OBJECTS)
-    (with_new_object heap pass, reply.Made (record { pass = pass; number = length (objects_of heap pass) })) (heap, reply.ObjectsSpent) old new refl refl
-never_spent heap pass (call.Get o key) old new = refl
-never_spent heap pass (call.Has o key) old new = refl
-never_spent heap pass (call.Names o) old new = refl
-never_spent heap pass (call.Put o key value) old new =
-    let object = object_of heap o in
-    let more : Heap × Reply = (with_object heap o (with_property object key value), reply.Done) in
-    let full : Heap × Reply = (heap, reply.TooManyNames) in
-    cond_spent (has_property object key) (with_object heap o (with_value object key value), reply.Done) (if is_full_for object key then full else more) old new
-    refl (cond_spent (is_full_for object key) full more old new refl refl)
-never_spent heap pass (call.Delete o key) old new = refl
-never_spent heap pass (call.Cas o key expected desired) old new =
-    let object = object_of heap o in
-    cond_spent (is_found_as (property object key) expected)
-    (with_object heap o (with_value object key desired), reply.Found (value_of object key)) (heap, reply.Found (value_of object key)) old new refl refl
 
 abbrev entry_of : Heap → ℕ → Call → Entry
 entry_of heap pass c = record { pass = pass; call = c; reply = (one heap pass c).1 }
@@ -52,7 +24,7 @@ after_one : (passes : ℕ) (before : History) (heap : Heap) (pass : ℕ) (c : Ca
 after_one passes before heap pass c e =
     fold-append after_entry (heap_at_start passes) before (entry_of heap pass c ∷ [])
     ∙ ap (λ h. after_entry h (entry_of heap pass c)) e
-    ∙ never_spent heap pass c heap (one heap pass c).0
+    ∙ kept heap pass c
 
 pub legal : (passes pass : ℕ) → pass < passes → (t : Interaction) (heap : Heap) (before : History) → heap_after passes before ≡ heap → IsLegalAfter passes before (history_of pass t heap)
 legal passes pass lt (Ends outcome lines) heap before e = tt
@@ -72,7 +44,7 @@ heap_after-history_of passes pass (Asks c lines answered) heap before e =
 pub follow-history_of : (pass : ℕ) (t : Interaction) (heap : Heap) → follow t (map (λ e. e.reply) (history_of pass t heap))
     ≡ record { calls = map (λ e. e.call) (history_of pass t heap); lines = (end_of pass t heap).lines; stand = Ended (end_of pass t heap).outcome }
 follow-history_of pass (Ends outcome lines) heap = refl
-follow-history_of pass (Asks c lines answered) heap = ap (after_call c) (follow-history_of pass (answered (one heap pass c).1) (one heap pass c).0)
+follow-history_of pass (Asks c lines answered) heap = ap (with_call_first c) (follow-history_of pass (answered (one heap pass c).1) (one heap pass c).0)
 
 -- all its calls are those of pass 1, and none is of pass 0
 pub entries_of-alone : (t : Interaction) (heap : Heap) → entries_of 1 (history_of 1 t heap) ≡ history_of 1 t heap
@@ -108,6 +80,7 @@ module _ (script : Script) (texts : Table) where
   history_of_script = record {
     legal = legal 2 1 (lit< tt) (interaction_of script texts) (heap_at_start 2) [] refl;
     setup = ap (map (λ e. e.call)) (setup (interaction_of script texts) (heap_at_start 2));
+    as_many = refl;
     each = each_of_one script texts end_alone.outcome history_alone (record {
       calls = ap (map (λ e. e.call)) (entries_of-alone (interaction_of script texts) (heap_at_start 2)) ∙ ap (λ r. r.calls) (sym run_alone);
       ended = ap (λ r. r.stand) run_alone;

@@ -1,3 +1,6 @@
 pub mod Passes
 pub mod Putting
+pub mod LegalSteps
 pub mod Alone
+pub mod Woven
+pub mod Worked

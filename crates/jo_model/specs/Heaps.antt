@@ -27,6 +27,6 @@ object_of heap o = slice_index_or (objects_of heap o.pass) o.number empty_object
 abbrev pub with_object : Heap → ObjId → Object → Heap
 with_object heap o object = slice_set heap o.pass (slice_set (objects_of heap o.pass) o.number object)
 
--- the heap with one more object of a pass, which is empty
+-- the heap with one more, empty object of a pass
 abbrev pub with_new_object : Heap → ℕ → Heap
 with_new_object heap pass = slice_set heap pass (objects_of heap pass ++ empty_object ∷ [])

@@ -1,6 +1,6 @@
 -- Legal histories of the calls of several passes.
 use Rattle.std.specs.Prelude.{◌≡◌, ◌⊎◌, ℕ, ◌+◌, ◌*◌, ◌<◌, ◌≤◌, ◌==◌, ◌&&◌, Bool, true, false, List, [], ◌∷◌, ◌++◌, fold, filter, map, if◌then◌else◌}
-use Rattle.jo_value.specs.declared.limits.TheConstants.{MOST_STORAGE, MOST_SPENT}
+use Rattle.jo_value.specs.declared.limits.TheConstants.{MOST_STORAGE, MOST_NEED}
 use Rattle.jo_model.specs.declared.call.Call.{Call}
 use Rattle.jo_model.specs.declared.call.Call.TheVariants as call
 use Rattle.jo_model.specs.declared.call.Reply.{Reply}
@@ -20,7 +20,8 @@ pub record Entry : Type 0 where
 abbrev pub History : Type 0
 History = List Entry
 
--- whether an answered call is a change of the heap
+-- whether an answered call is a change of this heap, which is the one before it; a Put that is Done is one also where
+-- the value was the same
 abbrev pub is_change : Heap → Call → Reply → Bool
 is_change heap call.New (reply.Made o) = true
 is_change heap (call.Put o key value) reply.Done = true
@@ -28,12 +29,12 @@ is_change heap (call.Delete o key) (reply.Flag b) = has_property (object_of heap
 is_change heap (call.Cas o key expected desired) (reply.Found v) = is_found_as (property (object_of heap o) key) expected
 is_change heap _ _ = false
 
--- the new heap, unless no storage was left: then the old one
+-- the new heap, unless too little storage was left: then the old one
 abbrev pub unless_spent : Reply → Heap → Heap → Heap
 unless_spent (reply.Spent spent) old new = old
 unless_spent _ old new = new
 
--- the heap after an entry; a call for which no storage was left changes nothing
+-- the heap after an entry; a call for which too little storage was left changes nothing
 abbrev pub after_entry : Heap → Entry → Heap
 after_entry heap e = unless_spent e.reply heap (one heap e.pass e.call).0
 
@@ -53,24 +54,24 @@ MayTakeStorage (call.Put o key value) = Unit {0}
 MayTakeStorage (call.Delete o key) = Unit {0}
 MayTakeStorage _ = ⊥
 
--- A refusal for want of storage is lawful where what was used and what is needed are more than a pass has,
--- and where neither is more than a call, and as many calls as the pass has made changes, can take.
-pub record IsOutOfStorage (changes : ℕ) (call : Call) (answer : Reply) : Type 0 where
+-- A refusal for want of storage is lawful where used and needed together are more than a pass has, the need is at most
+-- what one call takes, and used is at most that much for each change that the pass has made.
+pub record IsLawfulSpent (made : ℕ) (call : Call) (answer : Reply) : Type 0 where
   pub spent : Spent
   pub answered : answer ≡ reply.Spent spent
   pub takes : MayTakeStorage call
   pub over : MOST_STORAGE < spent.used + spent.need
-  pub need : spent.need ≤ MOST_SPENT
-  pub used : spent.used ≤ MOST_SPENT * changes
+  pub need : spent.need ≤ MOST_NEED
+  pub used : spent.used ≤ MOST_NEED * made
 
 -- An entry is lawful after others: its pass is one of the heap's, and its reply is that of one thread,
 -- or a lawful refusal for want of storage.
 pub record IsLawful (passes : ℕ) (before : History) (e : Entry) : Type 0 where
   pub pass : e.pass < passes
   pub reply : (e.reply ≡ (one (heap_after passes before) e.pass e.call).1)
-      ⊎ IsOutOfStorage (changes_by e.pass (heap_at_start passes) before) e.call e.reply
+      ⊎ IsLawfulSpent (changes_by e.pass (heap_at_start passes) before) e.call e.reply
 
--- each entry is lawful after these and those before it
+-- each entry is lawful after the entries `before` and those that precede it
 abbrev pub IsLegalAfter : ℕ → History → History → Type 0
 IsLegalAfter passes before [] = Unit {0}
 IsLegalAfter passes before (e ∷ w) = IsLawful passes before e × IsLegalAfter passes (before ++ e ∷ []) w

@@ -16,7 +16,7 @@ use Rattle.jo_model.specs.declared.script.Read.{Read}
 use Rattle.jo_model.specs.declared.script.Script.{Script}
 use Rattle.jo_model.specs.Runs.{Interaction, Ends, Asks, Lines, Run, follow}
 
--- the bytes of the text with a number; none where the table lacks it
+-- the bytes of the text with a number; the empty text where the table lacks it
 abbrev pub text_in : Table → ℕ → List ℕ
 text_in texts id = unwrap_or (slice_get texts id) []
 

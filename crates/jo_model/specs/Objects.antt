@@ -1,4 +1,4 @@
--- An ordinary object (ECMA-262): its properties, in the order of its own keys.
+-- An ordinary object (ECMA-262): its properties. Its own keys in order are its indexes, and then its names.
 use Rattle.std.specs.Prelude.{ℕ, ◌==◌, nat_lt, nat_le, Bool, false, List, [], ◌∷◌, ◌++◌, length, count_by, insert, remove, slice_get, slice_set, Option, is_some, option_map, unwrap_or}
 use Rattle.std.specs.List.{position_or_len}
 use Rattle.jo_value.specs.declared.limits.TheConstants.{MOST_NAMES}
@@ -9,8 +9,8 @@ use Rattle.jo_value.specs.declared.value.Value.{Value}
 use Rattle.jo_value.specs.declared.value.Value.TheVariants.{Undefined}
 use Rattle.jo_value.specs.Values.{is_same_name}
 
--- An object is two lists of properties: those with a name, each name once, in order of creation,
--- and those with an index, in rising order of index.
+-- Two lists of properties: those with a name, in order of creation, and those with an index.
+-- In every heap that calls make a name stands once and the indexes rise.
 pub record Object : Type 0 where
   pub names : List (NameId × Value)
   pub elements : List (ℕ × Value)
@@ -39,7 +39,7 @@ has_property o key = is_some (property o key)
 abbrev pub value_of : Object → Key → Value
 value_of o key = unwrap_or (property o key) Undefined
 
--- whether no property with a new key of this kind can be added
+-- whether the object has no room for one more property with a key of this kind
 abbrev pub is_full_for : Object → Key → Bool
 is_full_for o (Name name) = nat_le MOST_NAMES (length o.names)
 is_full_for o (Index index) = false

@@ -15,7 +15,8 @@ abbrev pub is_found_as : Option Value → Value → Bool
 is_found_as None expected = false
 is_found_as (Some found) expected = is_strictly_equal found expected
 
--- The new heap and the reply of a call by a pass. An object that the call names is there.
+-- The new heap and the reply of a call by a pass. Nothing is meant by the case of an object that is not there:
+-- a script has only objects that are.
 abbrev pub one : Heap → ℕ → Call → Heap × Reply
 one heap pass call.New =
     if nat_lt (length (objects_of heap pass)) MOST_OBJECTS

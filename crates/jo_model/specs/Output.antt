@@ -24,10 +24,12 @@ pub record IsRunIn (w : History) (t : ℕ) (script : Script) (texts : Table) (ou
   pub ended : (run_in w t script texts).stand ≡ Ended outcome
 
 -- A history of these scripts, of which number t, from 1, runs in pass t: it is legal, pass 0, which sets up, has no
--- call in it, and the calls of each script stand in it once each, in its order, up to the script's end.
+-- call in it, and the calls of each script stand in it once each, in its order, up to the script's end. The outcomes are
+-- those of the scripts, in order.
 pub record IsHistoryOf (scripts : List Script) (texts : Table) (outcomes : List Outcome) (w : History) : Type 0 where
   pub legal : IsLegal (length scripts + 1) w
   pub setup : calls_of 0 w ≡ []
+  pub as_many : length outcomes ≡ length scripts
   pub each : (k : ℕ) (script : Script) → slice_get scripts k ≡ Some script
       → (outcome : Outcome) × (slice_get outcomes k ≡ Some outcome) × IsRunIn w (k + 1) script texts outcome
 

@@ -27,14 +27,14 @@ pub record Run : Type 0 where
   pub lines : Lines
   pub stand : Stand
 
-abbrev pub after_call : Call → Run → Run
-after_call c run = record run { calls = c ∷ run.calls }
+abbrev pub with_call_first : Call → Run → Run
+with_call_first c run = record run { calls = c ∷ run.calls }
 
 -- the run at these replies
 abbrev pub follow : Interaction → List Reply → Run
 follow (Ends outcome lines) replies = record { calls = []; lines = lines; stand = Ended outcome }
 follow (Asks c lines answered) [] = record { calls = []; lines = lines; stand = Waits c }
-follow (Asks c lines answered) (r ∷ replies) = after_call c (follow (answered r) replies)
+follow (Asks c lines answered) (r ∷ replies) = with_call_first c (follow (answered r) replies)
 
 -- what a run leaves: the heap, the lines and the outcome
 pub record End : Type 0 where

@@ -48,7 +48,7 @@ pub enum Reply {
     TooManyNames,
     /// To `New`: the pass has made as many objects as it may.
     ObjectsSpent,
-    /// To `Put` and `Delete`: no storage is left for the pass.
+    /// To `Put` and `Delete`: too little storage is left for the pass.
     Spent(Spent),
 }
 

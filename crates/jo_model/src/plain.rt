@@ -33,7 +33,7 @@ impl Model for PlainHeap {
 impl PlainHeap {
     ghost use Rattle.jo_model.specs.Heaps.{heap_at_start, objects_of, object_of, with_object, IsBorn};
     ghost use Rattle.jo_model.specs.One.{one};
-    ghost use Rattle.jo_model.specs.Calls.{NamesBorn};
+    ghost use Rattle.jo_model.specs.Calls.{IsOnBornObject};
     ghost use Rattle.jo_model.specs.Plain.{IsBuilt, IsName, put_in};
 
     /// The heap of so many passes at the start: object 0.0 alone, without properties.
@@ -53,7 +53,7 @@ impl PlainHeap {
     /// So far a call is a Get or a Put of a name.
     pub fn call(&mut self, pass: u8, call: Call) -> Result<Reply, AllocError>
         requires pass { pass < length self.old }
-        requires object { NamesBorn self.old call }
+        requires object { IsOnBornObject self.old call }
         requires built { IsBuilt call }
         ensures ok { IfOk result (λ reply. one self.old pass call ≡ (self.new, reply)) }
         ensures err { OnErr result (self.new ≡ self.old) }

@@ -13,7 +13,7 @@ pub struct Script {
 pub enum Item {
     /// `shared.name = number;`
     Put { name: NameId, number: i64 },
-    /// `print(read, read);`, with any number of reads
+    /// `print(read, read);`, with one read or more
     Print(Items<Read>),
 }
 

@@ -19,4 +19,4 @@ pub const MOST_OBJECTS: usize = 4_096;
 pub const MOST_STORAGE: u32 = 1_048_576;
 
 /// The most words of storage that one call takes.
-pub const MOST_SPENT: u32 = 2_300;
+pub const MOST_NEED: u32 = 2_300;

@@ -18,7 +18,7 @@ pub enum InternFault {
     TooManyTexts,
 }
 
-/// A table of texts without a text twice. A text's number is its place in the table, from 0.
+/// A table of texts. A text's number is its place in the table, from 0, and interning gives equal texts one number.
 ///
 /// Contracts see the list of the texts, each as its bytes.
 #[derive(Debug, Drop)]
