@@ -41,8 +41,8 @@ kept h p (call.Put o k v) =
     let full : Heap × Reply = (h, reply.TooManyNames) in
     let added : Heap × Reply = (with_object h o (with_property (object_of h o) k v), reply.Done) in
     kept-if h (has_property (object_of h o) k) (with_object h o (with_value (object_of h o) k v), reply.Done)
-        (if is_full_for (object_of h o) k then full else added)
-        refl (kept-if h (is_full_for (object_of h o) k) full added refl refl)
+    (if is_full_for (object_of h o) k then full else added)
+    refl (kept-if h (is_full_for (object_of h o) k) full added refl refl)
 kept h p (call.Delete o k) = refl
 kept h p (call.Cas o k e d) = kept-if h (is_found_as (property (object_of h o) k) e)
     (with_object h o (with_value (object_of h o) k d), reply.Found (value_of (object_of h o) k))
@@ -85,26 +85,30 @@ module _ (P : ℕ) where
   module _ (heap : Heap) (count : ℕ → ℕ) where
     lawful-of : (before : History) (e : Entry) → Leads before heap count → Stays heap count e → IsLawful P before e
     lawful-of before e l s = record {
-        pass = s.pass;
-        reply = elim s.lawful [
-            inl q ↦ inl (ap (λ a. a.1) (sym q) ∙ ap (λ h. (one h e.pass e.call).1) (sym l.at))
-          | inr q ↦ inr (let Q : ℕ → Type 0 = λ n. IsLawfulSpent n e.call e.reply in subst Q (sym (l.counts e.pass)) q) ] }
+      pass = s.pass;
+      reply = elim s.lawful [
+        | inl q ↦ inl (ap (λ a. a.1) (sym q) ∙ ap (λ h. (one h e.pass e.call).1) (sym l.at))
+        | inr q ↦ inr (let Q : ℕ → Type 0 = λ n. IsLawfulSpent n e.call e.reply in subst Q (sym (l.counts e.pass)) q)
+      ];
+    }
 
     stays-at : (e : Entry) → Stays heap count e → after_entry heap e ≡ heap
     stays-at e s = elim s.lawful [
-        inl q ↦ ap (λ a. unless_spent e.reply heap a.0) q ∙ unless-same e.reply heap
-      | inr q ↦ ap (λ r. unless_spent r heap (one heap e.pass e.call).0) q.answered ]
+      | inl q ↦ ap (λ a. unless_spent e.reply heap a.0) q ∙ unless-same e.reply heap
+      | inr q ↦ ap (λ r. unless_spent r heap (one heap e.pass e.call).0) q.answered
+    ]
 
     leads-on : (before : History) (e : Entry) → Leads before heap count → Stays heap count e → Leads (before ++ e ∷ []) heap count
     leads-on before e l s = record {
-        at = fold-append after_entry (heap_at_start P) before (e ∷ []) ∙ ap (λ h. after_entry h e) l.at ∙ stays-at e s;
-        counts = λ t.
-            changes-snoc t (heap_at_start P) before e
-            ∙ ap (λ h. changes_by t (heap_at_start P) before + plus (e.pass == t && is_change h e.call e.reply)) l.at
-            ∙ ap (λ b. changes_by t (heap_at_start P) before + plus (e.pass == t && b)) s.look
-            ∙ ap (λ b. changes_by t (heap_at_start P) before + plus b) (and-false (e.pass == t))
-            ∙ add-zero (changes_by t (heap_at_start P) before)
-            ∙ l.counts t }
+      at = fold-append after_entry (heap_at_start P) before (e ∷ []) ∙ ap (λ h. after_entry h e) l.at ∙ stays-at e s;
+      counts = λ t.
+          changes-snoc t (heap_at_start P) before e
+          ∙ ap (λ h. changes_by t (heap_at_start P) before + plus (e.pass == t && is_change h e.call e.reply)) l.at
+          ∙ ap (λ b. changes_by t (heap_at_start P) before + plus (e.pass == t && b)) s.look
+          ∙ ap (λ b. changes_by t (heap_at_start P) before + plus b) (and-false (e.pass == t))
+          ∙ add-zero (changes_by t (heap_at_start P) before)
+          ∙ l.counts t;
+    }
 
     looks-legal : (before es : History) → Leads before heap count → AllStay heap count es → IsLegalAfter P before es
     looks-legal before [] l s = tt
@@ -144,15 +148,16 @@ module _ (P : ℕ) where
         let e : Entry = record { pass = c.pass; call = c.call; reply = (one heap c.pass c.call).1 } in
         let m : Leads (before ++ looks) heap count = looks-lead heap count before looks l a.0 in
         let lawful : IsLawful P (before ++ looks) e =
-              record { pass = a.1; reply = inl (ap (λ h. (one h c.pass c.call).1) (sym m.at)) } in
+        record { pass = a.1; reply = inl (ap (λ h. (one h c.pass c.call).1) (sym m.at)) } in
         let next : Leads ((before ++ looks) ++ e ∷ []) (one heap c.pass c.call).0 (counted count c) = record {
-              at = fold-append after_entry (heap_at_start P) (before ++ looks) (e ∷ []) ∙ ap (λ h. after_entry h e) m.at ∙ kept heap c.pass c.call;
-              counts = λ t.
-                  changes-snoc t (heap_at_start P) (before ++ looks) e
-                  ∙ ap (λ h. changes_by t (heap_at_start P) (before ++ looks) + plus (c.pass == t && is_change h c.call e.reply)) m.at
-                  ∙ ap (λ b. changes_by t (heap_at_start P) (before ++ looks) + plus (c.pass == t && b)) a.2
-                  ∙ ap (λ b. changes_by t (heap_at_start P) (before ++ looks) + plus b) (and-true (c.pass == t))
-                  ∙ ap (λ n. n + plus (c.pass == t)) (m.counts t) } in
+          at = fold-append after_entry (heap_at_start P) (before ++ looks) (e ∷ []) ∙ ap (λ h. after_entry h e) m.at ∙ kept heap c.pass c.call;
+          counts = λ t.
+              changes-snoc t (heap_at_start P) (before ++ looks) e
+              ∙ ap (λ h. changes_by t (heap_at_start P) (before ++ looks) + plus (c.pass == t && is_change h c.call e.reply)) m.at
+              ∙ ap (λ b. changes_by t (heap_at_start P) (before ++ looks) + plus (c.pass == t && b)) a.2
+              ∙ ap (λ b. changes_by t (heap_at_start P) (before ++ looks) + plus b) (and-true (c.pass == t))
+              ∙ ap (λ n. n + plus (c.pass == t)) (m.counts t);
+        } in
         legal-append before looks (e ∷ weave_from (place + 1) (one heap c.pass c.call).0 cs calls)
-            (looks-legal heap count before looks l a.0)
-            (lawful, legal (place + 1) (one heap c.pass c.call).0 (counted count c) cs ((before ++ looks) ++ e ∷ []) a.3 next)
+        (looks-legal heap count before looks l a.0)
+        (lawful, legal (place + 1) (one heap c.pass c.call).0 (counted count c) cs ((before ++ looks) ++ e ∷ []) a.3 next)

@@ -123,7 +123,7 @@ a_name_that_is_not_there_is_not_found = refl
 pub names_come_in_order_of_creation :
     at (object (named 5 (number 1) ∷ named 2 (number 1) ∷ named 9 (number 1) ∷ []) ((0, number 1) ∷ [])) (call.Names shared)
     ≡ gives (object (named 5 (number 1) ∷ named 2 (number 1) ∷ named 9 (number 1) ∷ []) ((0, number 1) ∷ []))
-        (reply.Names (record { 0 = 5 } ∷ record { 0 = 2 } ∷ record { 0 = 9 } ∷ []))
+    (reply.Names (record { 0 = 5 } ∷ record { 0 = 2 } ∷ record { 0 = 9 } ∷ []))
 names_come_in_order_of_creation = refl
 
 -- Swaps.
@@ -257,10 +257,10 @@ one_object_more_is_refused = refl
 -- the heap after three changes: an object of pass 1, a name on it, and the object under a name of the shared one
 pub three_changes_make_an_object_and_share_it :
     after 3 (record { pass = 1; call = call.New }
-        ∷ record { pass = 1; call = call.Put (record { pass = 1; number = 0 }) (name 4) (number 7) }
-        ∷ record { pass = 2; call = call.Put shared (name 5) (value.Object (record { pass = 1; number = 0 })) } ∷ [])
+    ∷ record { pass = 1; call = call.Put (record { pass = 1; number = 0 }) (name 4) (number 7) }
+    ∷ record { pass = 2; call = call.Put shared (name 5) (value.Object (record { pass = 1; number = 0 })) } ∷ [])
     ≡ ((object (named 5 (value.Object (record { pass = 1; number = 0 })) ∷ []) [] ∷ [])
-        ∷ (object (named 4 (number 7) ∷ []) [] ∷ []) ∷ [] ∷ [])
+    ∷ (object (named 4 (number 7) ∷ []) [] ∷ []) ∷ [] ∷ [])
 three_changes_make_an_object_and_share_it = refl
 
 -- a put of the value that is there is a change all the same
@@ -296,12 +296,12 @@ abbrev their_calls : List (List PlacedCall)
 their_calls =
     []
     ∷ (record { place = 0; call = look; reply = reply.Found value.Undefined }
-        ∷ record { place = 0; call = put (name 0) 1; reply = reply.Done }
-        ∷ record { place = 1; call = look; reply = found 1 } ∷ [])
+    ∷ record { place = 0; call = put (name 0) 1; reply = reply.Done }
+    ∷ record { place = 1; call = look; reply = found 1 } ∷ [])
     ∷ (record { place = 0; call = call.Names shared; reply = reply.Names [] }
-        ∷ record { place = 1; call = look; reply = found 1 }
-        ∷ record { place = 1; call = put (name 0) 2; reply = reply.Done }
-        ∷ record { place = 2; call = look; reply = found 2 } ∷ [])
+    ∷ record { place = 1; call = look; reply = found 1 }
+    ∷ record { place = 1; call = put (name 0) 2; reply = reply.Done }
+    ∷ record { place = 2; call = look; reply = found 2 } ∷ [])
     ∷ []
 
 -- an entry of a history
@@ -326,14 +326,25 @@ a_weave_puts_each_read_at_its_place = refl
 
 -- the woven history is legal
 pub the_woven_history_is_legal : IsLegal 3 (weave two_puts their_calls)
-the_woven_history_is_legal =
-    (record { pass = omega arith; reply = inl refl },
-    (record { pass = omega arith; reply = inl refl },
-    (record { pass = omega arith; reply = inl refl },
-    (record { pass = omega arith; reply = inl refl },
-    (record { pass = omega arith; reply = inl refl },
-    (record { pass = omega arith; reply = inl refl },
-    (record { pass = omega arith; reply = inl refl }, tt)))))))
+the_woven_history_is_legal = (
+  record { pass = omega arith; reply = inl refl },
+  (
+    record { pass = omega arith; reply = inl refl },
+    (
+      record { pass = omega arith; reply = inl refl },
+      (
+        record { pass = omega arith; reply = inl refl },
+        (
+          record { pass = omega arith; reply = inl refl },
+          (
+            record { pass = omega arith; reply = inl refl },
+            (record { pass = omega arith; reply = inl refl }, tt),
+          ),
+        ),
+      ),
+    ),
+  ),
+)
 
 -- the put of pass 2 is a lawful change at its place
 pub a_put_at_its_place_is_a_lawful_change :
@@ -353,20 +364,26 @@ the_calls_of_a_pass_keep_their_order = refl
 -- a refusal for want of storage stands at its place and leaves the heap as it is, so the next read still finds the old value
 pub a_weave_keeps_a_refusal_for_want_of_storage :
     weave (record { pass = 1; call = put (Index 0) 1 } ∷ [])
-        ([] ∷ (record { place = 0; call = put (Index 0) 1; reply = reply.Done }
-            ∷ record { place = 1; call = put (Index 9) 2; reply = reply.Spent (record { used = 5; need = 9 }) }
-            ∷ record { place = 1; call = call.Get shared (Index 9); reply = reply.Found value.Undefined } ∷ []) ∷ [])
+    ([] ∷ (record { place = 0; call = put (Index 0) 1; reply = reply.Done }
+    ∷ record { place = 1; call = put (Index 9) 2; reply = reply.Spent (record { used = 5; need = 9 }) }
+    ∷ record { place = 1; call = call.Get shared (Index 9); reply = reply.Found value.Undefined } ∷ []) ∷ [])
     ≡ (entry 1 (put (Index 0) 1) reply.Done
-        ∷ entry 1 (put (Index 9) 2) (reply.Spent (record { used = 5; need = 9 }))
-        ∷ entry 1 (call.Get shared (Index 9)) (reply.Found value.Undefined) ∷ [])
+    ∷ entry 1 (put (Index 9) 2) (reply.Spent (record { used = 5; need = 9 }))
+    ∷ entry 1 (call.Get shared (Index 9)) (reply.Found value.Undefined) ∷ [])
 a_weave_keeps_a_refusal_for_want_of_storage = refl
 
 -- after 455 changes a call may be refused for want of storage
 pub a_call_after_455_changes_may_be_refused :
     IsLawfulSpent 455 (put (name 0) 1) (reply.Spent (record { used = 1046277; need = 2300 }))
 a_call_after_455_changes_may_be_refused =
-    record { spent = record { used = 1046277; need = 2300 }; answered = refl; takes = tt;
-        over = omega arith; need = omega arith; used = omega arith }
+    record {
+      spent = record { used = 1046277; need = 2300 };
+      answered = refl;
+      takes = tt;
+      over = omega arith;
+      need = omega arith;
+      used = omega arith;
+    }
 
 -- after 454 changes no call may be
 pub no_call_after_454_changes_may_be_refused : (c : Call) (r : Reply) → IsLawfulSpent 454 c r → ⊥
@@ -388,10 +405,12 @@ a_text_stands_once_in_a_table = refl
 
 -- shared.x = 1; shared.y = 2; print(shared.x, shared.z);
 abbrev first : Script
-first = record { items =
-    item.Put (record { 0 = 0 }) (pos 1)
-    ∷ item.Put (record { 0 = 1 }) (pos 2)
-    ∷ item.Print (record { name = record { 0 = 0 } } ∷ record { name = record { 0 = 2 } } ∷ []) ∷ [] }
+first = record {
+  items =
+      item.Put (record { 0 = 0 }) (pos 1)
+      ∷ item.Put (record { 0 = 1 }) (pos 2)
+      ∷ item.Print (record { name = record { 0 = 0 } } ∷ record { name = record { 0 = 2 } } ∷ []) ∷ [];
+}
 
 -- the end of a script alone in pass 1, and its history
 abbrev ended : Script → Table → End
@@ -422,16 +441,22 @@ pub the_first_script_has_a_legal_history :
     IsHistoryOf (first ∷ []) xyz (outcome.Done ∷ []) (history first xyz)
 the_first_script_has_a_legal_history =
     record {
-        legal =
-            (record { pass = omega arith; reply = inl refl },
-            (record { pass = omega arith; reply = inl refl },
-            (record { pass = omega arith; reply = inl refl },
-            (record { pass = omega arith; reply = inl refl }, tt))));
-        setup = refl;
-        as_many = refl;
-        each = λ k script there.
-            let P : Option Script → Type 0 = λ o. IfSome o (IsRunAt k) in
-            subst P there (the_first_script_is_done_at_its_place k) }
+      legal = (
+        record { pass = omega arith; reply = inl refl },
+        (
+          record { pass = omega arith; reply = inl refl },
+          (
+            record { pass = omega arith; reply = inl refl },
+            (record { pass = omega arith; reply = inl refl }, tt),
+          ),
+        ),
+      );
+      setup = refl;
+      as_many = refl;
+      each = λ k script there.
+          let P : Option Script → Type 0 = λ o. IfSome o (IsRunAt k) in
+          subst P there (the_first_script_is_done_at_its_place k);
+    }
 
 -- after two replies it waits for the first of its gets, and has printed nothing
 pub the_first_script_waits_for_its_first_get :

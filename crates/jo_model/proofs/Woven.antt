@@ -52,14 +52,22 @@ module _ (P : ℕ) (C : List HeapChange) where
       stays t p lt lawful at look =
           let heap-at : after P (take p.place C) ≡ heap = ap (λ n. after P (take n C)) at ∙ heap-is in
           let same-count : count_by (λ c. c.pass == t) (take p.place C) ≡ count t =
-                ap (λ n. count_by (λ c. c.pass == t) (take n C)) at ∙ count-is t in
+          ap (λ n. count_by (λ c. c.pass == t) (take n C)) at ∙ count-is t in
           elim lawful [
-              inl rest ↦ absurd (true≢false (sym rest.change ∙ ap (λ h. is_change h p.call p.reply) heap-at ∙ look))
+            | inl rest ↦ absurd (true≢false (sym rest.change ∙ ap (λ h. is_change h p.call p.reply) heap-at ∙ look))
             | inr rest ↦ elim rest [
-                inl q ↦ record { pass = lt; look = look;
-                  lawful = inl (let Q : Heap → Type 0 = λ h. one h t p.call ≡ (h, p.reply) in subst Q heap-at q.same) }
-              | inr q ↦ record { pass = lt; look = look;
-                  lawful = inr (let Q : ℕ → Type 0 = λ n. IsLawfulSpent n p.call p.reply in subst Q same-count q.refused) } ] ]
+              | inl q ↦ record {
+                pass = lt;
+                look = look;
+                lawful = inl (let Q : Heap → Type 0 = λ h. one h t p.call ≡ (h, p.reply) in subst Q heap-at q.same);
+              }
+              | inr q ↦ record {
+                pass = lt;
+                look = look;
+                lawful = inr (let Q : ℕ → Type 0 = λ n. IsLawfulSpent n p.call p.reply in subst Q same-count q.refused);
+              }
+            ]
+          ]
 
       filtered : (t : ℕ) (p : PlacedCall) (b : Bool) (rest : List PlacedCall)
           → (b ≡ true → Stays P heap count (record { pass = t; call = p.call; reply = p.reply }))
@@ -73,10 +81,10 @@ module _ (P : ℕ) (C : List HeapChange) where
       of-pass t lt [] h = tt
       of-pass t lt (p ∷ ps) h =
           filtered t p (p.place == place && not (is_change heap p.call p.reply)) (filter (λ q. q.place == place && not (is_change heap q.call q.reply)) ps)
-            (λ e. stays t p lt (h 0 p refl)
-                (eqb-true p.place place (both-first (p.place == place) (not (is_change heap p.call p.reply)) e))
-                (not-true (is_change heap p.call p.reply) (both-second (p.place == place) (not (is_change heap p.call p.reply)) e)))
-            (of-pass t lt ps (λ k q e. h (suc k) q e))
+          (λ e. stays t p lt (h 0 p refl)
+          (eqb-true p.place place (both-first (p.place == place) (not (is_change heap p.call p.reply)) e))
+          (not-true (is_change heap p.call p.reply) (both-second (p.place == place) (not (is_change heap p.call p.reply)) e)))
+          (of-pass t lt ps (λ k q e. h (suc k) q e))
 
       of-all : (t : ℕ) (calls : List (List PlacedCall)) → t + length calls ≡ P
           → ((i : ℕ) (ps : List PlacedCall) → slice_get calls i ≡ Some ps → (k : ℕ) (p : PlacedCall) → slice_get ps k ≡ Some p → IsLawfulPlaced P C (t + i) p)
@@ -84,16 +92,16 @@ module _ (P : ℕ) (C : List HeapChange) where
       of-all t [] e h = tt
       of-all t (ps ∷ calls) e h =
           stay-append (unchanging_at place heap t ps) (flat_map (λ of_pass. unchanging_at place heap of_pass.0 of_pass.1) (enumerate_from (t + 1) calls))
-            (of-pass t (let e' : t + suc (length calls) ≡ P = e in omega (arith, e')) ps
-              (λ k p q. let z : t + 0 ≡ t = omega arith in let Q : ℕ → Type 0 = λ n. IsLawfulPlaced P C n p in subst Q z (h 0 ps refl k p q)))
-            (of-all (t + 1) calls (let e' : t + suc (length calls) ≡ P = e in omega (arith, e'))
-              (λ i qs q k p r. let z : t + suc i ≡ t + 1 + i = omega arith in
-                let Q : ℕ → Type 0 = λ n. IsLawfulPlaced P C n p in subst Q z (h (suc i) qs q k p r)))
+          (of-pass t (let e' : t + suc (length calls) ≡ P = e in omega (arith, e')) ps
+          (λ k p q. let z : t + 0 ≡ t = omega arith in let Q : ℕ → Type 0 = λ n. IsLawfulPlaced P C n p in subst Q z (h 0 ps refl k p q)))
+          (of-all (t + 1) calls (let e' : t + suc (length calls) ≡ P = e in omega (arith, e'))
+          (λ i qs q k p r. let z : t + suc i ≡ t + 1 + i = omega arith in
+          let Q : ℕ → Type 0 = λ n. IsLawfulPlaced P C n p in subst Q z (h (suc i) qs q k p r)))
 
   module _ (calls : List (List PlacedCall)) (all : length calls ≡ P)
       (placed : (i : ℕ) (ps : List PlacedCall) → slice_get calls i ≡ Some ps → (k : ℕ) (p : PlacedCall) → slice_get ps k ≡ Some p → IsLawfulPlaced P C i p)
       (changes : (n : ℕ) (c : HeapChange) → slice_get C n ≡ Some c
-          → (c.pass < P) × (is_change (after P (take n C)) c.call (one (after P (take n C)) c.pass c.call).1 ≡ true)) where
+      → (c.pass < P) × (is_change (after P (take n C)) c.call (one (after P (take n C)) c.pass c.call).1 ≡ true)) where
     looks-stay : (place : ℕ) (heap : Heap) (count : ℕ → ℕ) → after P (take place C) ≡ heap
         → ((t : ℕ) → count_by (λ c. c.pass == t) (take place C) ≡ count t)
         → AllStay P heap count (all_unchanging_at place heap calls)
@@ -106,23 +114,24 @@ module _ (P : ℕ) (C : List HeapChange) where
     all-lawful [] place heap count d a b = looks-stay place heap count a b
     all-lawful (c ∷ cs) place heap count d a b =
         let is : (c.pass < P) × (is_change (after P (take place C)) c.call (one (after P (take place C)) c.pass c.call).1 ≡ true) =
-              changes place c (step-get C place c cs d) in
+        changes place c (step-get C place c cs d) in
         let up : suc place ≡ place + 1 = omega arith in
-        let longer : take (place + 1) C ≡ take place C ++ c ∷ [] = ap (λ n. take n C) (sym up) ∙ step-take C place c cs d in
-        ( looks-stay place heap count a b
-        , is.0
-        , ap (λ h. is_change h c.call (one h c.pass c.call).1) (sym a) ∙ is.1
-        , all-lawful cs (place + 1) (one heap c.pass c.call).0 (counted P count c)
-            (ap (λ n. drop n C) (sym up) ∙ step-drop C place c cs d)
-            (ap (λ l. after P l) longer ∙ fold-append (λ heap c. (one heap c.pass c.call).0) (heap_at_start P) (take place C) (c ∷ []) ∙ ap (λ h. (one h c.pass c.call).0) a)
-            (λ t. ap (λ l. count_by (λ c. c.pass == t) l) longer
-                ∙ fold-append (λ n d. n + cond (d.pass == t) 1 0) 0 (take place C) (c ∷ [])
-                ∙ ap (λ n. n + cond (c.pass == t) 1 0) (b t)) )
+        let longer : take (place + 1) C ≡ take place C ++ c ∷ [] = ap (λ n. take n C) (sym up) ∙ step-take C place c cs d in (
+          looks-stay place heap count a b,
+          is.0,
+          ap (λ h. is_change h c.call (one h c.pass c.call).1) (sym a) ∙ is.1,
+          all-lawful cs (place + 1) (one heap c.pass c.call).0 (counted P count c)
+              (ap (λ n. drop n C) (sym up) ∙ step-drop C place c cs d)
+              (ap (λ l. after P l) longer ∙ fold-append (λ heap c. (one heap c.pass c.call).0) (heap_at_start P) (take place C) (c ∷ []) ∙ ap (λ h. (one h c.pass c.call).0) a)
+              (λ t. ap (λ l. count_by (λ c. c.pass == t) l) longer
+              ∙ fold-append (λ n d. n + cond (d.pass == t) 1 0) 0 (take place C) (c ∷ [])
+              ∙ ap (λ n. n + cond (c.pass == t) 1 0) (b t)),
+        )
 
     pub weave-is-legal : IsLegal P (weave C calls)
     weave-is-legal =
         let starts : heap_at_start (length calls) ≡ heap_at_start P = ap heap_at_start all in
         let Q : Heap → Type 0 = λ h. IsLegal P (weave_from 0 h C calls) in
         subst Q (sym starts)
-          (legal P calls 0 (heap_at_start P) (λ t. 0) C [] (all-lawful C 0 (heap_at_start P) (λ t. 0) refl refl (λ t. refl))
-            (record { at = refl; counts = λ t. refl }))
+        (legal P calls 0 (heap_at_start P) (λ t. 0) C [] (all-lawful C 0 (heap_at_start P) (λ t. 0) refl refl (λ t. refl))
+        (record { at = refl; counts = λ t. refl }))

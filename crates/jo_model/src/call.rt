@@ -9,11 +9,19 @@ pub enum Call {
     /// Makes an empty object.
     New,
     /// Reads a property.
-    Get { object: ObjId, key: Key },
+    Get {
+        object: ObjId,
+        key: Key,
+    },
     /// Tests whether a property is there.
-    Has { object: ObjId, key: Key },
+    Has {
+        object: ObjId,
+        key: Key,
+    },
     /// Lists the names of an object in order of creation.
-    Names { object: ObjId },
+    Names {
+        object: ObjId,
+    },
     /// Sets a property.
     Put {
         object: ObjId,
@@ -21,7 +29,10 @@ pub enum Call {
         value: Value,
     },
     /// Deletes a property.
-    Delete { object: ObjId, key: Key },
+    Delete {
+        object: ObjId,
+        key: Key,
+    },
     /// Sets a property to `desired` where its value is strictly equal to `expected`.
     Cas {
         object: ObjId,

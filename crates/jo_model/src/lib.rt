@@ -4,6 +4,8 @@
 mod call;
 mod plain;
 mod script;
+#[cfg(test)]
+mod tests;
 
 pub use call::{Call, NameList, Outcome, Reply, Spent};
 pub use plain::{PlainHeap, PlainObject};

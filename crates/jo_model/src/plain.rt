@@ -4,10 +4,9 @@ ghost use Rattle.std.specs.Prelude.{◌≡◌, ◌<◌, length, slice_get, IfOk,
 mod object;
 mod pass;
 
-pub use object::PlainObject;
-
 use crate::{Call, Reply};
 use jo_value::{Key, NameId, ObjId, Value};
+pub use object::PlainObject;
 use pass::PassObjects;
 use std::alloc::{AllocError, Global};
 use std::marker::Model;
@@ -20,7 +19,6 @@ pub struct PlainHeap {
 
 impl Model for PlainHeap {
     ghost use Rattle.jo_model.specs.Heaps.{Heap};
-
     ghost use Rattle.std.specs.Prelude.{length, ◌<◌, ◌^◌};
 
     ghost Value = { Heap };

@@ -6,7 +6,7 @@ mod texts;
 mod value;
 
 pub use limits::{
-    MOST_NAMES, MOST_NUMBER, MOST_OBJECTS, MOST_NEED, MOST_STORAGE, MOST_TEXT_BYTES, MOST_TEXTS,
+    MOST_NAMES, MOST_NEED, MOST_NUMBER, MOST_OBJECTS, MOST_STORAGE, MOST_TEXT_BYTES, MOST_TEXTS,
 };
 pub use texts::{InternFault, Texts};
 pub use value::{Key, NameId, ObjId, TextId, Value};

@@ -108,3 +108,29 @@ impl Texts {
         self.texts.is_empty()
     }
 }
+
+#[cfg(test)]
+mod tests {
+    use super::*;
+    use std::test::Fail;
+
+    #[test]
+    fn equal_texts_have_one_number(rt: HostRuntime) -> Result<(), Fail> {
+        let mut texts = Texts::new(rt.alloc());
+        assert!(rt; texts.is_empty());
+        for (text, number) in [
+            ("x", 0),
+            ("yes", 1),
+            ("x", 0),
+            ("", 2),
+            ("xy", 3),
+            ("yes", 1),
+        ] {
+            assert_eq!(rt; texts.intern(text)?, TextId(number), "{text}");
+        }
+        assert_eq!(rt; texts.len(), 4);
+        assert_eq!(rt; texts.bytes(TextId(1)), b"yes".as_slice());
+        assert_eq!(rt; texts.bytes(TextId(3)), b"xy".as_slice());
+        Ok(())
+    }
+}
