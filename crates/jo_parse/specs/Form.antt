@@ -1,5 +1,5 @@
 -- The small form of a script: how it is spelled, and which tree it has.
-use Rattle.std.specs.Prelude.{◌≡◌, ◌≢◌, ℕ, ◌≤◌, ◌<◌, ◌==◌, ◌&&◌, ◌||◌, not, nat_le, Bool, false, List, [], ◌∷◌, ◌++◌, codes, decimal, flat_map, length, map, pos, IsTrue}
+use Rattle.std.specs.Prelude.{◌≡◌, ◌≢◌, ℕ, ◌≤◌, ◌==◌, ◌&&◌, ◌||◌, nat_le, Bool, false, List, [], ◌∷◌, ◌++◌, codes, decimal, flat_map, length, map, pos, IsTrue}
 use Rattle.std.specs.List.{AllByRecursion, list_all}
 use Rattle.jo_value.specs.declared.limits.TheConstants.{MOST_NAMES, MOST_NUMBER, MOST_TEXT_BYTES}
 use Rattle.jo_value.specs.declared.value.NameId.{NameId}

@@ -1,4 +1,4 @@
-// The small reader.
+// The reader, as others call it.
 ghost use Rattle.std.specs.Prelude.{◌≡◌, List, ℕ, IfOk, Err};
 ghost use Rattle.jo_value.specs.Texts.{Table};
 ghost use Rattle.jo_value.specs.declared.limits.TheConstants.{MOST_NAMES};
@@ -6,10 +6,10 @@ ghost use Rattle.jo_model.specs.declared.script.Script.{Script as Tree};
 ghost use Rattle.jo_model.specs.Names.{UseNamesBelow};
 ghost use Rattle.jo_parse.specs.Form.{Spelled, IsForm, IsScript};
 
+use crate::items::items;
 use jo_model::Script;
 use jo_value::Texts;
-use sqlite_items::Items;
-use std::alloc::Global;
+use std::alloc::{AllocError, Global};
 use thiserror::Error;
 
 /// The most bytes of a script of the small form.
@@ -24,6 +24,16 @@ pub enum ParseFault {
     /// The bytes are no script of the small form.
     #[error("not a script")]
     Refused,
+}
+
+impl From<AllocError> for ParseFault {
+    ghost use Rattle.jo_parse.specs.declared.script.ParseFault.TheVariants.{Memory};
+
+    ghost from_gives = { λ _ e. e ≡ Memory };
+
+    fn from(_: AllocError) -> ParseFault {
+        ParseFault::Memory
+    }
 }
 
 /// The tree of a script, with the table of its names.
@@ -43,5 +53,13 @@ pub fn parse_script(alloc: Global, bytes: &[u8]) -> Result<Parsed, ParseFault>
     // Exactly the bytes of no script are refused.
     ensures refused { result ≡ Err ParseFault.Refused → (items : List Spelled) → IsForm bytes.now items → ⊥ }
 {
-    Err(ParseFault::Memory)
+    if bytes.len() > MOST_BYTES {
+        return Err(ParseFault::Refused);
+    }
+    let mut texts = Texts::new(alloc);
+    let items = items(alloc, &mut texts, bytes)?;
+    Ok(Parsed {
+        script: Script { items },
+        texts,
+    })
 }

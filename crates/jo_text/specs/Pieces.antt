@@ -1,0 +1,18 @@
+-- Pieces of the output text.
+use Rattle.std.specs.Prelude.{ℕ, ◌==◌, ◌||◌, List, [], ◌∷◌, ◌++◌, codes, map, flat_map, if◌then◌else◌}
+use Rattle.jo_value.specs.Texts.{Table}
+use Rattle.jo_model.specs.Objects.{Object}
+use Rattle.jo_model.specs.Meaning.{joined}
+use Rattle.jo_model.specs.Output.{element_text, name_text}
+
+-- texts one after another, with a text before each
+abbrev pub each_behind : List ℕ → List (List ℕ) → List ℕ
+each_behind between texts = flat_map (λ u. between ++ u) texts
+
+-- a byte as it stands between double quotes: a backslash or a double quote has a backslash before it
+abbrev pub escaped : ℕ → List ℕ
+escaped b = if b == 92 || b == 34 then 92 ∷ b ∷ [] else b ∷ []
+
+-- what stands between the braces of an object's line
+abbrev pub properties_text : Table → Object → List ℕ
+properties_text texts o = joined (codes ", ") (map (element_text texts) o.elements ++ map (name_text texts) o.names)

@@ -1,0 +1,62 @@
+// The text of all objects: a line for each, in order of pass and number.
+ghost use Rattle.std.specs.Prelude.{◌≡◌, ◌++◌, OnOk};
+ghost use Rattle.std.specs.List.{enumerate_from, flat_map};
+ghost use Rattle.jo_model.specs.Output.{object_line, heap_text};
+
+use crate::properties::add_properties;
+use jo_model::{PlainHeap, PlainObject};
+use jo_value::Texts;
+use std::alloc::{AllocError, Global};
+
+/// Puts the lines of all objects at the end, in order of pass and number.
+///
+/// After an `Err` nothing is promised of the text.
+pub fn add_heap(
+    alloc: Global,
+    text: &mut Vec<u8>,
+    texts: &Texts,
+    heap: &PlainHeap,
+) -> Result<(), AllocError>
+    ensures { OnOk result (text.new.items ≡ text.old.items ++ heap_text texts.now heap.now) }
+{
+    for pass in 0..heap.passes() {
+        add_objects(alloc, text, texts, pass, heap.objects_of(pass))?;
+    }
+    Ok(())
+}
+
+// Puts the lines of a pass's objects at the end.
+fn add_objects(
+    alloc: Global,
+    text: &mut Vec<u8>,
+    texts: &Texts,
+    pass: u8,
+    objects: &[PlainObject],
+) -> Result<(), AllocError>
+    ensures { OnOk result (text.new.items
+        ≡ text.old.items ++ flat_map (object_line texts.now pass) (enumerate_from 0 objects.now)) }
+{
+    for (number, object) in objects.iter().enumerate() {
+        add_object(alloc, text, texts, pass, number, object)?;
+    }
+    Ok(())
+}
+
+// Puts the line of an object at the end.
+fn add_object(
+    alloc: Global,
+    text: &mut Vec<u8>,
+    texts: &Texts,
+    pass: u8,
+    number: usize,
+    object: &PlainObject,
+) -> Result<(), AllocError>
+    ensures { OnOk result (text.new.items
+        ≡ text.old.items ++ object_line texts.now pass (number, object.now)) }
+{
+    let head = format!(in alloc; "#{pass}.{number} {{")?;
+    text.extend_from_slice(head.as_bytes())?;
+    add_properties(alloc, text, texts, object)?;
+    text.extend_from_slice(b"}\n")?;
+    Ok(())
+}
