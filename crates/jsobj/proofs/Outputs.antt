@@ -1,5 +1,5 @@
 -- The output text of a script that ran alone.
-use Rattle.std.proofs.Common.{◌≡◌, ℕ, List, [], ◌∷◌, ◌++◌, Some, refl, sym, ap, subst, ◌∙◌}
+use Rattle.std.proofs.Common.{◌≡◌, ℕ, List, [], ◌∷◌, ◌++◌, refl, sym, ap, subst, ◌∙◌}
 use Rattle.std.proofs.lemmas.List.{append-nil}
 use Rattle.jo_value.specs.Texts.{Table}
 use Rattle.jo_model.specs.declared.call.Outcome.{Outcome}
@@ -7,7 +7,7 @@ use Rattle.jo_model.specs.declared.call.Outcome.TheVariants as outcome
 use Rattle.jo_model.specs.declared.script.Script.{Script}
 use Rattle.jo_model.specs.Heaps.{Heap}
 use Rattle.jo_model.specs.History.{History, heap_after}
-use Rattle.jo_model.specs.Runs.{Lines, Stand, Ended}
+use Rattle.jo_model.specs.Runs.{Lines, Ended}
 use Rattle.jo_model.specs.Output.{IsHistoryOf, run_in, run_text, heap_text}
 use Rattle.jo_walk.specs.Walks.{IsRunAlone}
 use Rattle.jsobj.specs.Run.{IsOutputOf}
