@@ -100,7 +100,7 @@ fn a_sink_in_memory_fails_at_the_named_calls(rt: HostRuntime) -> Result<(), Fail
 }
 
 #[test]
-fn the_edge_fails_where_std_does(rt: HostRuntime) -> Result<(), Fail> {
+fn a_source_over_std_fails_where_std_does(rt: HostRuntime) {
     let mut source = StdSource::new(Faulty { calls: 0 });
     let reads = [
         (Ok(2), *b"xx-"),
@@ -109,6 +109,10 @@ fn the_edge_fails_where_std_does(rt: HostRuntime) -> Result<(), Fail> {
         (Ok(2), *b"xx-"),
     ];
     check_reads(&rt, &mut source, &reads);
+}
+
+#[test]
+fn a_sink_over_std_fails_where_std_does(rt: HostRuntime) {
     let mut sink = StdSink::new(Faulty { calls: 0 });
     let writes = [
         (b"abc".as_slice(), Ok(2)),
@@ -118,5 +122,4 @@ fn the_edge_fails_where_std_does(rt: HostRuntime) -> Result<(), Fail> {
         (b"c".as_slice(), Ok(1)),
     ];
     check_writes(&rt, &mut sink, &writes);
-    Ok(())
 }

@@ -13,7 +13,7 @@ use Rattle.jo_model.specs.History.{Entry, History, after_entry, heap_after, IsLe
 use Rattle.jo_model.specs.Runs.{Interaction, Ends, Asks, Ended, End, with_call_first, follow, end_of, history_of}
 use Rattle.jo_model.specs.Meaning.{interaction_of}
 use Rattle.jo_model.proofs.LegalSteps.{kept}
-use Rattle.jo_model.specs.Output.{run_in, IsRunIn, IsHistoryOf}
+use Rattle.jo_model.specs.Output.{run_in, IsRunIn, IsHistoryOf, history_alone}
 
 abbrev entry_of : Heap → ℕ → Call → Entry
 entry_of heap pass c = record { pass = pass; call = c; reply = (one heap pass c).1 }
@@ -67,28 +67,25 @@ module _ (script : Script) (texts : Table) where
   abbrev pub end_alone : End
   end_alone = end_of 1 (interaction_of script texts) (heap_at_start 2)
 
-  abbrev pub history_alone : History
-  history_alone = history_of 1 (interaction_of script texts) (heap_at_start 2)
-
-  run_alone : run_in history_alone 1 script texts ≡ record { calls = map (λ e. e.call) history_alone; lines = end_alone.lines; stand = Ended end_alone.outcome }
+  run_alone : run_in (history_alone script texts) 1 script texts ≡ record { calls = map (λ e. e.call) (history_alone script texts); lines = end_alone.lines; stand = Ended end_alone.outcome }
   run_alone =
       ap (λ w. follow (interaction_of script texts) (map (λ e. e.reply) w)) (entries_of-alone (interaction_of script texts) (heap_at_start 2))
       ∙ follow-history_of 1 (interaction_of script texts) (heap_at_start 2)
 
   -- it is a history of its script, beside pass 0
-  pub history_of_script : IsHistoryOf (script ∷ []) texts (end_alone.outcome ∷ []) history_alone
+  pub history_of_script : IsHistoryOf (script ∷ []) texts (end_alone.outcome ∷ []) (history_alone script texts)
   history_of_script = record {
     legal = legal 2 1 (lit< tt) (interaction_of script texts) (heap_at_start 2) [] refl;
     setup = ap (map (λ e. e.call)) (setup (interaction_of script texts) (heap_at_start 2));
     as_many = refl;
-    each = each_of_one script texts end_alone.outcome history_alone (record {
+    each = each_of_one script texts end_alone.outcome (history_alone script texts) (record {
       calls = ap (map (λ e. e.call)) (entries_of-alone (interaction_of script texts) (heap_at_start 2)) ∙ ap (λ r. r.calls) (sym run_alone);
       ended = ap (λ r. r.stand) run_alone;
     });
   }
 
-  pub lines_alone : end_alone.lines ≡ (run_in history_alone 1 script texts).lines
+  pub lines_alone : end_alone.lines ≡ (run_in (history_alone script texts) 1 script texts).lines
   lines_alone = ap (λ r. r.lines) (sym run_alone)
 
-  pub heap_alone : end_alone.heap ≡ heap_after 2 history_alone
+  pub heap_alone : end_alone.heap ≡ heap_after 2 (history_alone script texts)
   heap_alone = sym (heap_after-history_of 2 1 (interaction_of script texts) (heap_at_start 2) [] refl)

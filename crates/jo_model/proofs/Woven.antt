@@ -6,7 +6,7 @@ use Rattle.std.proofs.lemmas.List.Sums.{fold-append}
 use Rattle.jo_model.specs.Heaps.{Heap, heap_at_start}
 use Rattle.jo_model.specs.One.{one}
 use Rattle.jo_model.specs.History.{History, IsLegal, IsLawfulSpent, is_change}
-use Rattle.jo_model.specs.Placed.{HeapChange, after, PlacedCall, IsLawfulPlaced, unchanging_at, all_unchanging_at, weave, weave_from}
+use Rattle.jo_model.specs.Placed.{HeapChange, AreChanges, after, PlacedCall, IsLawfulPlaced, unchanging_at, all_unchanging_at, weave, weave_from}
 use Rattle.jo_model.proofs.LegalSteps.{Stays, AllStay, AllLawful, legal, counted}
 
 step-take : (l : List HeapChange) (n : ℕ) (x : HeapChange) (r : List HeapChange) → drop n l ≡ x ∷ r → take (suc n) l ≡ take n l ++ x ∷ []
@@ -100,8 +100,7 @@ module _ (P : ℕ) (C : List HeapChange) where
 
   module _ (calls : List (List PlacedCall)) (all : length calls ≡ P)
       (placed : (i : ℕ) (ps : List PlacedCall) → slice_get calls i ≡ Some ps → (k : ℕ) (p : PlacedCall) → slice_get ps k ≡ Some p → IsLawfulPlaced P C i p)
-      (changes : (n : ℕ) (c : HeapChange) → slice_get C n ≡ Some c
-      → (c.pass < P) × (is_change (after P (take n C)) c.call (one (after P (take n C)) c.pass c.call).1 ≡ true)) where
+      (changes : AreChanges P C) where
     looks-stay : (place : ℕ) (heap : Heap) (count : ℕ → ℕ) → after P (take place C) ≡ heap
         → ((t : ℕ) → count_by (λ c. c.pass == t) (take place C) ≡ count t)
         → AllStay P heap count (all_unchanging_at place heap calls)

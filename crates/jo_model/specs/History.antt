@@ -48,7 +48,7 @@ changes_by pass heap [] = 0
 changes_by pass heap (e ∷ w) =
     (if e.pass == pass && is_change heap e.call e.reply then 1 else 0) + changes_by pass (after_entry heap e) w
 
--- the calls that may take storage
+-- the calls that may be refused for want of storage
 abbrev pub MayTakeStorage : Call → Type 0
 MayTakeStorage (call.Put o key value) = Unit {0}
 MayTakeStorage (call.Delete o key) = Unit {0}

@@ -62,7 +62,7 @@ unless_refused ObjectsSpent next lines = Ends outcome.ObjectsSpent lines
 unless_refused (Spent spent) next lines = Ends outcome.Spent lines
 unless_refused _ next lines = next lines
 
--- the reads are evaluated from left to right, each by a Get, and what comes next takes their values
+-- the reads are evaluated from left to right (ArgumentListEvaluation), each by a Get, and what comes next takes their values
 abbrev pub read_each : List Read → (List Value → Next) → Next
 read_each [] next lines = next [] lines
 read_each (r ∷ reads) next lines =

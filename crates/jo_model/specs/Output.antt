@@ -9,10 +9,10 @@ use Rattle.jo_model.specs.declared.call.Outcome.{Outcome}
 use Rattle.jo_model.specs.declared.call.Outcome.TheVariants as outcome
 use Rattle.jo_model.specs.declared.script.Script.{Script}
 use Rattle.jo_model.specs.Objects.{Object}
-use Rattle.jo_model.specs.Heaps.{Heap}
+use Rattle.jo_model.specs.Heaps.{Heap, heap_at_start}
 use Rattle.jo_model.specs.History.{History, IsLegal, heap_after, calls_of, replies_of}
-use Rattle.jo_model.specs.Runs.{Lines, Run, Stand, Waits, Ended}
-use Rattle.jo_model.specs.Meaning.{text_in, object_text, value_text, joined, does}
+use Rattle.jo_model.specs.Runs.{Lines, Run, Stand, Waits, Ended, history_of}
+use Rattle.jo_model.specs.Meaning.{text_in, object_text, value_text, joined, interaction_of, does}
 
 -- what script number t does in a history, where its pass is t
 abbrev pub run_in : History → ℕ → Script → Table → Run
@@ -33,6 +33,11 @@ pub record IsHistoryOf (scripts : List Script) (texts : Table) (outcomes : List 
   pub each : (k : ℕ) (script : Script) → slice_get scripts k ≡ Some script
       → (outcome : Outcome) × (slice_get outcomes k ≡ Some outcome) × IsRunIn w (k + 1) script texts outcome
 
+-- the history of a script that runs alone, as pass 1 beside pass 0, where each reply is that of one thread
+abbrev pub history_alone : Script → Table → History
+history_alone script texts = history_of 1 (interaction_of script texts) (heap_at_start 2)
+
+-- the word for an outcome
 abbrev pub outcome_text : Outcome → List ℕ
 outcome_text outcome.Done = codes "done"
 outcome_text outcome.TypeFault = codes "TypeFault"

@@ -40,7 +40,7 @@ pub record IsPlacedUnchanging (passes : ℕ) (changes : List HeapChange) (pass :
   pub same : one (after passes (take p.place changes)) pass p.call ≡ (after passes (take p.place changes), p.reply)
   pub unchanging : is_change (after passes (take p.place changes)) p.call p.reply ≡ false
 
--- a call for which too little storage was left changes nothing, at any place
+-- a lawful refusal for want of storage, which changes nothing and may have any place
 pub record IsPlacedRefusal (changes : List HeapChange) (pass : ℕ) (p : PlacedCall) : Type 0 where
   pub place : p.place ≤ length changes
   pub refused : IsLawfulSpent (count_by (λ c. c.pass == pass) (take p.place changes)) p.call p.reply
@@ -51,12 +51,12 @@ IsLawfulPlaced passes changes pass p =
     IsPlacedChange passes changes pass p ⊎ IsPlacedUnchanging passes changes pass p ⊎ IsPlacedRefusal changes pass p
 
 -- The calls of a pass stand in its own order: places never fall, and the call after a change stands behind it.
--- `changed` is the least place that the next call may have.
-abbrev pub IsInOwnOrder : ℕ → List HeapChange → ℕ → ℕ → List PlacedCall → Type 0
-IsInOwnOrder passes changes pass changed [] = Unit {0}
-IsInOwnOrder passes changes pass changed (p ∷ calls) =
-    (changed ≤ p.place)
-    × IsInOwnOrder passes changes pass (if is_change (after passes (take p.place changes)) p.call p.reply then p.place + 1 else p.place) calls
+-- `least` is the least place that the next call may have.
+abbrev pub IsInOwnOrder : ℕ → List HeapChange → ℕ → List PlacedCall → Type 0
+IsInOwnOrder passes changes least [] = Unit {0}
+IsInOwnOrder passes changes least (p ∷ calls) =
+    (least ≤ p.place)
+    × IsInOwnOrder passes changes (if is_change (after passes (take p.place changes)) p.call p.reply then p.place + 1 else p.place) calls
 
 -- the calls of a pass at a place that are no change there, in their order
 abbrev pub unchanging_at : ℕ → Heap → ℕ → List PlacedCall → History

@@ -28,7 +28,7 @@ is_name_start b = (nat_le 65 b && nat_le b 90) || (nat_le 97 b && nat_le b 122) 
 abbrev pub is_name_part : ℕ → Bool
 is_name_part b = is_name_start b || is_digit b
 
--- a name of at most so many bytes
+-- a name, which has at most `MOST_TEXT_BYTES` bytes
 abbrev pub is_name : List ℕ → Bool
 is_name [] = false
 is_name (b ∷ bytes) = is_name_start b && list_all is_name_part bytes && nat_le (length (b ∷ bytes)) MOST_TEXT_BYTES

@@ -50,7 +50,7 @@ pub fn parse_script(alloc: Global, bytes: &[u8]) -> Result<Parsed, ParseFault>
     ensures only { IfOk result (λ parsed. (script : Tree) (texts : Table)
         → IsScript bytes.now script texts → (script ≡ parsed.script) × (texts ≡ parsed.texts)) }
     ensures names { IfOk result (λ parsed. UseNamesBelow MOST_NAMES parsed.script.items) }
-    // Exactly the bytes of no script are refused.
+    // Bytes that are refused are no script.
     ensures refused { result ≡ Err ParseFault.Refused → (items : List Spelled) → IsForm bytes.now items → ⊥ }
 {
     if bytes.len() > MOST_BYTES {

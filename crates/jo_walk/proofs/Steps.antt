@@ -22,7 +22,7 @@ use Rattle.jo_model.specs.Heaps.{Heap, with_object, IsBorn}
 use Rattle.jo_model.specs.One.{one}
 use Rattle.jo_model.specs.Runs.{Lines, end_of, End}
 use Rattle.jo_model.specs.Meaning.{shared, Next, line_of, unless_refused, read_each, does_item, does_items}
-use Rattle.jo_model.proofs.Alone.{end_alone, history_alone, history_of_script, heap_alone, lines_alone, entries_of-alone}
+use Rattle.jo_model.proofs.Alone.{end_alone, history_of_script, heap_alone, lines_alone, entries_of-alone}
 use Rattle.jo_walk.specs.Walks.{IsReady, IsRunAlone, value_in, values_in, refusal_of, end_after, PutsTo}
 
 pub ready_passes : (heap : Heap) → IsReady heap → 1 < length heap
@@ -83,7 +83,6 @@ pub run_alone_from_end : (script : Script) (texts : Table) (heap : Heap) (lines 
 run_alone_from_end script texts heap lines outcome e =
     let P : End → Type 0 = λ x. IsRunAlone script texts x.heap x.lines x.outcome in
     subst P e (record {
-      history = history_alone script texts;
       of_script = history_of_script script texts;
       alone = entries_of-alone _ _;
       heap_is = heap_alone script texts;

@@ -15,19 +15,18 @@ use Rattle.jo_model.specs.declared.script.Read.{Read}
 use Rattle.jo_model.specs.declared.script.Script.{Script}
 use Rattle.jo_model.specs.Objects.{value_of}
 use Rattle.jo_model.specs.Heaps.{Heap, object_of}
-use Rattle.jo_model.specs.History.{History, heap_after, entries_of}
+use Rattle.jo_model.specs.History.{heap_after, entries_of}
 use Rattle.jo_model.specs.Runs.{Lines, Asks, End, end_of}
 use Rattle.jo_model.specs.Meaning.{shared, Next, unless_refused, does_item}
-use Rattle.jo_model.specs.Output.{IsHistoryOf, run_in}
+use Rattle.jo_model.specs.Output.{IsHistoryOf, history_alone, run_in}
 
--- A script ran alone, as pass 1: there is one history of it, with no call of another pass, and what is left
--- are the heap after that history, and the lines of the script in it.
+-- A script ran alone, as pass 1: the history that one thread gives for it is one of the script to this outcome, with no
+-- call of another pass, and what is left are the heap after that history, and the lines of the script in it.
 pub record IsRunAlone (script : Script) (texts : Table) (heap : Heap) (lines : Lines) (outcome : Outcome) : Type 0 where
-  pub history : History
-  pub of_script : IsHistoryOf (script ∷ []) texts (outcome ∷ []) history
-  pub alone : entries_of 1 history ≡ history
-  pub heap_is : heap ≡ heap_after 2 history
-  pub lines_are : lines ≡ (run_in history 1 script texts).lines
+  pub of_script : IsHistoryOf (script ∷ []) texts (outcome ∷ []) (history_alone script texts)
+  pub alone : entries_of 1 (history_alone script texts) ≡ history_alone script texts
+  pub heap_is : heap ≡ heap_after 2 (history_alone script texts)
+  pub lines_are : lines ≡ (run_in (history_alone script texts) 1 script texts).lines
 
 -- the heap has the shared object and the pass of a script
 abbrev pub IsReady : Heap → Type 0

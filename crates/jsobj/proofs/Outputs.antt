@@ -8,7 +8,7 @@ use Rattle.jo_model.specs.declared.script.Script.{Script}
 use Rattle.jo_model.specs.Heaps.{Heap}
 use Rattle.jo_model.specs.History.{History, heap_after}
 use Rattle.jo_model.specs.Runs.{Lines, Ended}
-use Rattle.jo_model.specs.Output.{IsHistoryOf, run_in, run_text, heap_text}
+use Rattle.jo_model.specs.Output.{IsHistoryOf, history_alone, run_in, run_text, heap_text}
 use Rattle.jo_walk.specs.Walks.{IsRunAlone}
 use Rattle.jsobj.specs.Run.{IsOutputOf}
 
@@ -25,13 +25,12 @@ pub output_alone : (script : Script) (texts : Table) (heap : Heap) (lines : Line
     IsRunAlone script texts heap lines o → o ≡ outcome.Done →
     start ≡ [] → first ≡ start ++ run_text 1 lines (Ended o) → text ≡ first ++ heap_text texts heap → IsOutputOf script texts text
 output_alone script texts heap lines o start first text run done empty ran all =
-    let w = run.history in
+    let w = history_alone script texts in
     let P : Outcome → Type 0 = λ x. IsHistoryOf (script ∷ []) texts (x ∷ []) w in
     let of_script : IsHistoryOf (script ∷ []) texts (outcome.Done ∷ []) w = subst P done run.of_script in
     let made = run_in w 1 script texts in
     let objects = heap_text texts (heap_after 2 w) in
     record {
-      history = w;
       of_script = of_script;
       alone = run.alone;
       text_is =

@@ -1,13 +1,13 @@
 -- What the top call says.
-use Rattle.std.specs.Prelude.{◌≡◌, ◌⊎◌, ℕ, ◌≤◌, Bool, false, List, [], ◌∷◌, length, codes, Option, string_bytes, String}
+use Rattle.std.specs.Prelude.{◌≡◌, ◌⊎◌, ℕ, ◌≤◌, Bool, true, false, List, [], ◌∷◌, length, codes, Option, string_bytes, String}
 use Rattle.std.specs.Str.{bytes_eq}
 use Rattle.std.specs.declared.alloc.Global.{Global}
 use Rattle.std.specs.Io.KnownBytes.{Consumes, IsAtEnd, Appends}
 use Rattle.jo_value.specs.Texts.{Table}
 use Rattle.jo_model.specs.declared.call.Outcome.TheVariants as outcome
 use Rattle.jo_model.specs.declared.script.Script.{Script}
-use Rattle.jo_model.specs.History.{History, entries_of}
-use Rattle.jo_model.specs.Output.{IsHistoryOf, output}
+use Rattle.jo_model.specs.History.{entries_of}
+use Rattle.jo_model.specs.Output.{IsHistoryOf, history_alone, output}
 use Rattle.jo_parse.specs.declared.script.TheConstants.{MOST_BYTES}
 use Rattle.jo_parse.specs.Form.{Spelled, IsForm, IsScript}
 use Rattle.jo_text.specs.Bytes.{AppendsPrefix}
@@ -34,12 +34,12 @@ usage_line = codes "usage: jsobj run [--stats] [--turns T] | make N | run-made N
 abbrev pub refusal_line : List ℕ
 refusal_line = codes "refused 3 Unexpected at 0\n"
 
--- the text is the output of the one legal history of a script, which runs to its end in pass 1 alone
+-- The history that one thread gives for a script, in pass 1 alone, is a legal one in which the script runs to its end,
+-- and the text is its output.
 pub record IsOutputOf (script : Script) (texts : Table) (text : List ℕ) : Type 0 where
-  pub history : History
-  pub of_script : IsHistoryOf (script ∷ []) texts (outcome.Done ∷ []) history
-  pub alone : entries_of 1 history ≡ history
-  pub text_is : text ≡ output (script ∷ []) texts history
+  pub of_script : IsHistoryOf (script ∷ []) texts (outcome.Done ∷ []) (history_alone script texts)
+  pub alone : entries_of 1 (history_alone script texts) ≡ history_alone script texts
+  pub text_is : text ≡ output (script ∷ []) texts (history_alone script texts)
 
 -- the bytes are no script of the small form
 abbrev pub IsNoScript : List ℕ → Type 0
@@ -67,14 +67,15 @@ pub record IsRefusal (left left' : Option (List ℕ)) (text : List ℕ) : Type 0
   pub none : IsNoScript bytes
   pub line : text ≡ refusal_line
 
--- other words were given, and the text says which are accepted
+-- other words were given, and the text is the usage line
 pub record IsUsage (words : List (String Global)) (text : List ℕ) : Type 0 where
   pub other : is_run words ≡ false
   pub line : text ≡ usage_line
 
--- the text that is due
+-- the text that is due for these words and this input
 abbrev pub IsDue : List (String Global) → Option (List ℕ) → Option (List ℕ) → List ℕ → Type 0
-IsDue words left left' text = IsUsage words text ⊎ (IsAnswer left left' text ⊎ IsRefusal left left' text)
+IsDue words left left' text =
+    IsUsage words text ⊎ ((is_run words ≡ true) × (IsAnswer left left' text ⊎ IsRefusal left left' text))
 
 -- a sink gained a text of which this holds
 abbrev pub Writes : (List ℕ → Type 0) → Option (List ℕ) → Option (List ℕ) → Type 0

@@ -1,5 +1,5 @@
 // The top call.
-ghost use Rattle.std.specs.Prelude.{◌≡◌, ◌⊎◌, ◌+◌, true, false, IfOk, IfSome, Err};
+ghost use Rattle.std.specs.Prelude.{◌≡◌, ◌⊎◌, ◌+◌, ◌≤◌, true, false, IfOk, IfSome, Err};
 ghost use Rattle.jo_io.specs.Causes.{Rose};
 ghost use Rattle.jo_model.specs.Names.{UseNamesBelow};
 ghost use Rattle.jo_parse.specs.Form.{IsScript};
@@ -59,7 +59,7 @@ impl Status {
 /// All that the program does: reads a script from the source, runs it, and writes its output text to the sink.
 ///
 /// `words` are those after the program's name. The source and the sink may be any; what the clauses
-/// say of bytes they say of those that tell their bytes.
+/// say of bytes they say of those that tell their bytes. The runtime is for the threads of scripts to come.
 pub fn run<R: Threads + Wait + Sync, S: Source, K: Sink>(
     _rt: &R,
     alloc: Global,
@@ -73,7 +73,7 @@ pub fn run<R: Threads + Wait + Sync, S: Source, K: Sink>(
     // An input is refused only where it is, as a whole, no script.
     ensures refused_input { result ≡ Status.Refused → IfSome (S.left source.old) IsNoScript }
     ensures usage { result ≡ Status.Usage → Writes (IsUsage words.now) (K.held sink.old) (K.held sink.new) }
-    ensures used { is_run words.now ≡ false → (result ≡ Status.Usage) ⊎ (result ≡ Status.WriteFault) }
+    ensures other_words { is_run words.now ≡ false → (result ≡ Status.Usage) ⊎ (result ≡ Status.WriteFault) }
 
     ensures read_fault { result ≡ Status.ReadFault → Rose (S.faults source.old) (S.faults source.new) }
     ensures write_fault { result ≡ Status.WriteFault → Rose (K.faults sink.old) (K.faults sink.new) }
@@ -83,12 +83,13 @@ pub fn run<R: Threads + Wait + Sync, S: Source, K: Sink>(
 
     ensures unread { is_run words.now ≡ false → source.new ≡ source.old }
     ensures bound { ConsumesAtMost (S.left source.old) (S.left source.new) (MOST_BYTES + 1) }
+    ensures later { (S.faults source.old ≤ S.faults source.new) × (K.faults sink.old ≤ K.faults sink.new) }
     // Where nothing fails, accepted words give one of three answers.
     ensures complete { is_run words.now ≡ true → (Rose (S.faults source.old) (S.faults source.new) → ⊥)
         → (Rose (K.faults sink.old) (K.faults sink.new) → ⊥)
         → (result ≡ Status.Done) ⊎ ((result ≡ Status.Refused) ⊎ (result ≡ Status.Memory)) }
 {
-    if !is_form(words) {
+    if !is_run(words) {
         return finish(sink, USAGE_LINE, Status::Usage);
     }
     let bytes = match read_all(alloc, MOST_BYTES + 1, source) {
@@ -103,7 +104,7 @@ pub fn run<R: Threads + Wait + Sync, S: Source, K: Sink>(
     }
 }
 
-fn is_form(words: &[String]) -> bool
+fn is_run(words: &[String]) -> bool
     ensures { result ≡ is_run words.now }
 {
     match words {
@@ -117,6 +118,7 @@ fn finish<K: Sink>(sink: &mut K, text: &[u8], status: Status) -> Status
     ensures answer { (result ≡ status) ⊎ (result ≡ Status.WriteFault) }
     ensures written { (result ≡ Status.WriteFault → ⊥) → Appends (K.held sink.old) (K.held sink.new) text.now }
     ensures prefix { AppendsPrefix (K.held sink.old) (K.held sink.new) text.now }
+    ensures later { K.faults sink.old ≤ K.faults sink.new }
     ensures cause { result ≡ Status.WriteFault → (status ≡ Status.WriteFault → ⊥) → Rose (K.faults sink.old) (K.faults sink.new) }
 {
     match write_all(sink, text) {

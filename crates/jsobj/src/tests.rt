@@ -44,7 +44,7 @@ fn each_status_comes_with_its_text(rt: HostRuntime) -> Result<(), Fail> {
         (
             &["run", "--turns", "0"],
             SCRIPT,
-            none,
+            &[1],
             none,
             Status::Usage,
             USAGE,
