@@ -359,14 +359,14 @@ a_read_between_two_puts_is_lawful = record { place = omega arith; same = refl; u
 -- the calls of pass 2 stand in its own order
 pub calls_whose_places_rise_stand_in_their_own_order :
     IsInOwnOrder 3 two_puts 0 (record { place = 0; call = call.Names shared; reply = reply.Names [] }
-        ∷ record { place = 1; call = put (name 0) 2; reply = reply.Done }
-        ∷ record { place = 2; call = look; reply = found 2 } ∷ [])
+    ∷ record { place = 1; call = put (name 0) 2; reply = reply.Done }
+    ∷ record { place = 2; call = look; reply = found 2 } ∷ [])
 calls_whose_places_rise_stand_in_their_own_order = (omega arith, (omega arith, (omega arith, tt)))
 
 -- a call at the place of the change before it does not
 pub no_call_stands_at_the_place_of_the_change_before_it :
     IsInOwnOrder 3 two_puts 0 (record { place = 1; call = put (name 0) 2; reply = reply.Done }
-        ∷ record { place = 1; call = look; reply = found 1 } ∷ []) → ⊥
+    ∷ record { place = 1; call = look; reply = found 1 } ∷ []) → ⊥
 no_call_stands_at_the_place_of_the_change_before_it h = let late : 2 ≤ 1 = h.1.0 in omega (arith, late)
 
 -- the calls of a pass stand in the history in its own order

@@ -1,5 +1,5 @@
 -- When two values, or two names, are the same.
-use Rattle.std.specs.Prelude.{◌==◌, ◌&&◌, ◌||◌, not, Bool, true, false}
+use Rattle.std.specs.Prelude.{◌==◌, ◌&&◌, not, Bool, true, false}
 use Rattle.std.specs.Ordering.{int_eq}
 use Rattle.jo_value.specs.declared.value.NameId.{NameId}
 use Rattle.jo_value.specs.declared.value.ObjId.{ObjId}

@@ -1,9 +1,9 @@
 // The table of the texts of a set of scripts.
-ghost use Rattle.std.specs.Prelude.{◌≡◌, ◌<◌, ◌≤◌, ◌↔◌, [], length, slice_get, Some, IfOk, OnErr, IsTrue, IsErrOf};
+ghost use Rattle.std.specs.Prelude.{◌≡◌, ◌<◌, ◌↔◌, [], ◌∷◌, ◌++◌, length, slice_get, Some, IfOk, IfSome, IfNone, OnOk, OnErr, IsTrue, IsErrOf};
 
 use crate::{MOST_TEXTS, TextId};
-use sqlite_items::Items;
-use std::alloc::Global;
+use indexmap::IndexSet;
+use std::alloc::{AllocError, Global};
 use std::marker::Model;
 use thiserror::Error;
 
@@ -24,18 +24,18 @@ pub enum InternFault {
 #[derive(Debug, Drop)]
 pub struct Texts {
     alloc: Global,
-    texts: Items<Items<u8>>,
+    texts: IndexSet<String>,
 }
 
 impl Model for Texts {
-    ghost use Rattle.std.specs.Prelude.{List, ℕ, length, ◌≤◌};
+    ghost use Rattle.std.specs.Prelude.{List, ℕ, length, map, ◌≤◌, string_bytes};
     ghost use Rattle.jo_value.specs.declared.limits.TheConstants.{MOST_TEXTS};
 
     ghost Value = { List (List ℕ) };
 
-    ghost view = { λ t. t.texts };
+    ghost view = { λ t. map (λ text. string_bytes text) t.texts.keys };
 
-    ghost invariant = { λ t. length t.texts ≤ MOST_TEXTS };
+    ghost invariant = { λ t. length t.texts.keys ≤ MOST_TEXTS };
 }
 
 impl Texts {
@@ -47,7 +47,7 @@ impl Texts {
     {
         Texts {
             alloc,
-            texts: Items::new(alloc),
+            texts: IndexSet::new(alloc),
         }
     }
 
@@ -60,30 +60,38 @@ impl Texts {
             ↔ ((number_in self.old text.now ≡ length self.old) × (length self.old ≡ MOST_TEXTS)) }
         ensures err { OnErr result (self.new ≡ self.old) }
     {
-        let at = self.position(text.as_bytes());
-        if at < self.texts.len() {
+        if let Some(at) = self.place(text) {
             return Ok(TextId(at as u16));
         }
-        if at == MOST_TEXTS {
+        let next = self.texts.len();
+        if next == MOST_TEXTS {
             return Err(InternFault::TooManyTexts);
         }
-        let Ok(copy) = Items::from_slice(self.alloc, text.as_bytes()) else {
-            return Err(InternFault::Memory);
-        };
-        match self.texts.push(copy) {
-            Ok(()) => Ok(TextId(at as u16)),
+        match self.add(text) {
+            Ok(()) => Ok(TextId(next as u16)),
             Err(_) => Err(InternFault::Memory),
         }
     }
 
-    // The place of the text, or the length where it is not there.
-    fn position(&self, text: &[u8]) -> usize
-        ensures place { result ≡ number_in self.now text.now }
-        ensures within { result ≤ length self.now }
+    // The place of the text, where it is there.
+    fn place(&self, text: &str) -> Option<usize>
+        ensures there { IfSome result (λ at. at ≡ number_in self.now text.now) }
+        ensures within { IfSome result (λ at. at < length self.now) }
+        ensures new { IfNone result (number_in self.now text.now ≡ length self.now) }
     {
-        let texts = self.texts.as_slice();
-        let at = texts.iter().position(|there| there.as_slice() == text);
-        at.unwrap_or(texts.len())
+        self.texts.get_index_of(text)
+    }
+
+    // Puts a new text last.
+    fn add(&mut self, text: &str) -> Result<(), AllocError>
+        requires new { number_in self.old text.now ≡ length self.old }
+        requires room { length self.old < MOST_TEXTS }
+        ensures ok { OnOk result (self.new ≡ self.old ++ text.now ∷ []) }
+        ensures err { OnErr result (self.new ≡ self.old) }
+    {
+        let copy = String::from_str(self.alloc, text)?;
+        self.texts.insert(copy)?;
+        Ok(())
     }
 
     /// The bytes of the text with this number.
@@ -91,7 +99,7 @@ impl Texts {
         requires { id.0 < length self.now }
         ensures { slice_get self.now id.0 ≡ Some result.now }
     {
-        self.texts.as_slice()[usize::from(id.0)].as_slice()
+        self.texts.as_slice()[usize::from(id.0)].as_bytes()
     }
 
     /// How many texts the table has.
@@ -106,31 +114,5 @@ impl Texts {
         ensures { IsTrue result ↔ (self.now ≡ []) }
     {
         self.texts.is_empty()
-    }
-}
-
-#[cfg(test)]
-mod tests {
-    use super::*;
-    use std::test::Fail;
-
-    #[test]
-    fn equal_texts_have_one_number(rt: HostRuntime) -> Result<(), Fail> {
-        let mut texts = Texts::new(rt.alloc());
-        assert!(rt; texts.is_empty());
-        for (text, number) in [
-            ("x", 0),
-            ("yes", 1),
-            ("x", 0),
-            ("", 2),
-            ("xy", 3),
-            ("yes", 1),
-        ] {
-            assert_eq!(rt; texts.intern(text)?, TextId(number), "{text}");
-        }
-        assert_eq!(rt; texts.len(), 4);
-        assert_eq!(rt; texts.bytes(TextId(1)), b"yes".as_slice());
-        assert_eq!(rt; texts.bytes(TextId(3)), b"xy".as_slice());
-        Ok(())
     }
 }
