@@ -1,4 +1,5 @@
 pub mod Passes
+pub mod Places
 pub mod Putting
 pub mod LegalSteps
 pub mod Alone

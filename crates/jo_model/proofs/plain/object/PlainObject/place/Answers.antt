@@ -3,7 +3,7 @@ use Rattle.std.proofs.lemmas.List.Sums.{prefix_len-le-length}
 use Rattle.std.proofs.lemmas.Iterator.{YieldsList-from_slice}
 use Rattle.std.proofs.lemmas.Iterator.Search.{position_from_yields_List}
 use Rattle.jo_value.specs.Values.{is_same_name}
-use Rattle.jo_value.proofs.Places.{place_or_length}
+use Rattle.jo_model.proofs.Places.{place_or_length}
 use Rattle.jo_model.proofs.plain.object.PlainObject.place.Goals as goal
 
 pub returns-clause-place : goal.returns-clause-place

@@ -1,0 +1,6 @@
+pub mod Texts
+pub mod Punctuation
+pub mod Literals
+pub mod Reading
+pub mod Worked
+pub mod Ending

@@ -1,0 +1,33 @@
+-- The punctuators: the longest that a script begins with (ECMA-262, Punctuators).
+use Rattle.std.specs.Prelude.{ℕ, Bool, not, ◌&&◌, nat_eq, nat_lt, List, [], ◌∷◌, length, map, drop, Option, Some, None, if◌then◌else◌, codes}
+use Rattle.std.specs.List.{starts_with}
+use Rattle.std.specs.Str.{bytes_eq}
+use Rattle.jo_lex.specs.declared.punct.Punct.{Punct}
+use Rattle.jo_lex.specs.declared.punct.TheConstants.{PUNCTUATORS}
+use Rattle.jo_lex.specs.Characters.{Characters, is_digit, begins_with}
+
+-- a punctuator's characters, which are ASCII, and its value where it is accepted
+abbrev pub Entry : Type 0
+Entry = List ℕ × Option Punct
+
+-- the punctuators of ECMAScript
+abbrev pub table : List Entry
+table = map (λ entry. (entry.0.now, entry.1)) PUNCTUATORS
+
+-- the script begins with the punctuator; `?.` is none before a digit
+abbrev pub fits : List ℕ → Characters → Bool
+fits p cs = starts_with nat_eq cs p && not (bytes_eq p (codes "?.") && begins_with is_digit (drop (length p) cs))
+
+-- the entry, unless the other is longer
+abbrev pub longer : Entry → Option Entry → Entry
+longer p None = p
+longer p (Some q) = if nat_lt (length p.0) (length q.0) then q else p
+
+-- the longest entry that the script begins with
+abbrev pub longest : List Entry → Characters → Option Entry
+longest [] cs = None
+longest (p ∷ ps) cs = if fits p.0 cs then Some (longer p (longest ps cs)) else longest ps cs
+
+-- the punctuator at the front, accepted or not
+unfoldable pub punctuator_of : Characters → Option Entry
+punctuator_of cs = longest table cs

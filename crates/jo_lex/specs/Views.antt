@@ -1,0 +1,53 @@
+-- What the code holds, as the grammar sees it.
+use Rattle.std.specs.Prelude.{ℕ, ◌≤◌, Bool, ◌&&◌, ◌||◌, ◌==◌, if◌then◌else◌, nat_lt, nat_le, true, false, List, [], ◌∷◌, length, map, Option}
+use Rattle.std.specs.Borrow.{Bor}
+use Rattle.std.specs.List.{list_all}
+use Rattle.std.specs.String.{string_bytes}
+use Rattle.std.specs.Str.{chars}
+use Rattle.jo_lex.specs.declared.literal.Stroke.{Stroke}
+use Rattle.jo_lex.specs.declared.literal.Stroke.TheVariants.{Close, Escape, Take, Refuse}
+use Rattle.jo_lex.specs.declared.punct.Punct.{Punct}
+use Rattle.jo_lex.specs.declared.piece.Lexeme.{Lexeme}
+use Rattle.jo_lex.specs.declared.piece.Lexeme.TheVariants as token
+use Rattle.jo_lex.specs.declared.piece.Piece.{Piece}
+use Rattle.jo_lex.specs.declared.piece.Piece.TheVariants as found
+use Rattle.jo_lex.specs.Pieces as spec
+use Rattle.jo_lex.specs.Pieces.{is_escapable}
+use Rattle.jo_lex.specs.Punctuators.{Entry}
+
+-- a token of the code
+abbrev pub lexeme_of : Lexeme → spec.Lexeme
+lexeme_of (token.Word bytes) = spec.word bytes.now
+lexeme_of (token.Number n) = spec.number n
+lexeme_of (token.Text string) = spec.text (string_bytes string)
+lexeme_of (token.Punct punct) = spec.punctuator punct
+
+-- a piece of the code
+abbrev pub piece_of : Piece → spec.Piece
+piece_of (found.Gap rest) = spec.gap (chars rest.now)
+piece_of (found.Token l rest) = spec.lexeme (lexeme_of l) (chars rest.now)
+piece_of (found.Fault kind) = spec.fault kind
+
+-- what is left takes at most n bytes
+abbrev pub IsWithin : ℕ → Piece → Type 0
+IsWithin n (found.Gap rest) = length rest.now ≤ n
+IsWithin n (found.Token l rest) = length rest.now ≤ n
+IsWithin n (found.Fault kind) = Unit {0}
+
+-- the rows of a table of the code
+abbrev pub entries_of : List (Bor (List ℕ) × Option Punct) → List Entry
+entries_of rows = map (λ row. (row.0.now, row.1)) rows
+
+-- each byte is below 128
+abbrev pub is_ascii : List ℕ → Bool
+is_ascii bytes = list_all (λ b. nat_lt b 128) bytes
+
+-- the entries are ASCII and not empty, and none is longer than the one before it
+abbrev pub is_falling : ℕ → List Entry → Bool
+is_falling n [] = true
+is_falling n (p ∷ ps) = is_ascii p.0 && nat_lt 0 (length p.0) && nat_le (length p.0) n && is_falling (length p.0) ps
+
+-- what a character does in a text literal, behind a backslash or not
+abbrev pub stroke_of : Bool → ℕ → ℕ → Stroke
+stroke_of true quote c = if is_escapable c then Take else Refuse
+stroke_of false quote c = if c == quote then Close else (if c == 92 then Escape else (if c == 10 || c == 13 then Refuse else Take))

@@ -1,0 +1,21 @@
+//! From the text of a script to its tokens, or to the first place that begins none.
+#![tactic(auto)]
+
+mod character;
+mod comment;
+mod literal;
+mod operator;
+mod piece;
+mod punct;
+mod reader;
+mod refusal;
+mod reserved;
+#[cfg(test)]
+mod tests;
+mod token;
+
+pub use punct::{PUNCTUATORS, Punct};
+pub use reader::tokens;
+pub use refusal::{ParseFault, Refusal, RefusalKind};
+pub use reserved::RESERVED;
+pub use token::{Token, TokenKind};

@@ -1,0 +1,105 @@
+// The piece that stands at the front of a text.
+ghost use Rattle.std.specs.Prelude.{◌≡◌, ◌-◌, ◌<◌, ◌∷◌, ◌++◌, length, encode_utf8, IfOk};
+ghost use Rattle.std.specs.Str.{chars};
+ghost use Rattle.jo_lex.specs.Classes.{EndsWith};
+ghost use Rattle.jo_lex.specs.Pieces as spec;
+ghost use Rattle.jo_lex.specs.Views.{piece_of, IsWithin};
+
+use crate::character::{Class, is_in, past};
+use crate::comment::comment;
+use crate::literal::{number, text_literal};
+use crate::operator::operator;
+use crate::{Punct, RefusalKind};
+use jo_value::MOST_TEXT_BYTES;
+use std::alloc::{AllocError, Global};
+
+/// A token without its place: a word, a number, what a text literal stands for, or a punctuator.
+#[derive(Drop)]
+pub(crate) enum Lexeme<'a> {
+    Word(&'a str),
+    Number(i64),
+    Text(String),
+    Punct(Punct),
+}
+
+/// Blanks or a comment, a token, or what is wrong; with what is left of the text.
+#[derive(Drop)]
+pub(crate) enum Piece<'a> {
+    Gap(&'a str),
+    Token(Lexeme<'a>, &'a str),
+    Fault(RefusalKind),
+}
+
+// What stands before the end of a text.
+pub(crate) fn front<'a>(text: &'a str, end: &str) -> &'a str
+    requires { EndsWith text.now end.now }
+    ensures { text.now ≡ result.now ++ end.now }
+{
+    let (front, _) = text.split_at(text.len() - end.len());
+    front
+}
+
+// The word that begins with this character.
+fn word<'a>(text: &'a str, first: char, after: &'a str) -> Piece<'a>
+    requires { text.now ≡ encode_utf8 first ++ after.now }
+    ensures value { piece_of result ≡ spec.word_piece first (chars after.now) }
+    ensures within { IsWithin (length after.now) result }
+{
+    let rest = past(Class::WordPart, after);
+    let word = front(text, rest);
+    if word.len() > MOST_TEXT_BYTES {
+        return Piece::Fault(RefusalKind::BadToken);
+    }
+    Piece::Token(Lexeme::Word(word), rest)
+}
+
+// The token that begins with this character.
+fn token<'a>(
+    alloc: Global,
+    text: &'a str,
+    first: char,
+    after: &'a str,
+) -> Result<Piece<'a>, AllocError>
+    requires chars { chars text.now ≡ first ∷ chars after.now }
+    requires bytes { text.now ≡ encode_utf8 first ++ after.now }
+    requires shorter { length after.now < length text.now }
+    ensures value { IfOk result (λ found.
+        piece_of found ≡ spec.token_piece first (chars after.now)) }
+    ensures within { IfOk result (IsWithin (length text.now - 1)) }
+{
+    if is_in(Class::WordStart, first) {
+        return Ok(word(text, first, after));
+    }
+    if is_in(Class::Digit, first) {
+        return Ok(number(first, after));
+    }
+    if first == '"' || first == '\'' {
+        return text_literal(alloc, first, after);
+    }
+    Ok(operator(text))
+}
+
+/// The piece that begins with this character.
+#[tactic(auto, unfolding(crate::specs::Pieces::piece))]
+pub(crate) fn piece_at<'a>(
+    alloc: Global,
+    text: &'a str,
+    first: char,
+    after: &'a str,
+) -> Result<Piece<'a>, AllocError>
+    requires chars { chars text.now ≡ first ∷ chars after.now }
+    requires bytes { text.now ≡ encode_utf8 first ++ after.now }
+    requires shorter { length after.now < length text.now }
+    ensures value { IfOk result (λ found. piece_of found ≡ spec.piece first (chars after.now)) }
+    ensures within { IfOk result (IsWithin (length text.now - 1)) }
+{
+    if is_in(Class::Blank, first) {
+        return Ok(Piece::Gap(past(Class::Blank, after)));
+    }
+    if first == '/'
+        && let Some(found) = comment(after)
+    {
+        return Ok(found);
+    }
+    token(alloc, text, first, after)
+}

@@ -1,0 +1,155 @@
+// From the text of a script to its tokens.
+ghost use Rattle.std.specs.Prelude.{◌≡◌, ◌+◌, ◌-◌, ◌<◌, ◌≤◌, ℕ, [], ◌∷◌, ◌++◌, length, IfOk, IfErr, IfSome, IfNone, IsErrOf, OnOk, OnErr, Some, None};
+ghost use Rattle.std.specs.Str.{chars};
+ghost use Rattle.jo_lex.specs.Tokens as spec;
+ghost use Rattle.jo_lex.specs.Views.{lexeme_of};
+ghost use Rattle.jo_lex.specs.Steps.{at, fault_at, AddsToken, IsTooMany, FailsAt};
+
+use crate::character::first_of;
+use crate::piece::{Lexeme, Piece, piece_at};
+use crate::reserved::is_reserved;
+use crate::{ParseFault, Refusal, RefusalKind, Token, TokenKind};
+use jo_value::{InternFault, TextId, Texts};
+use std::alloc::Global;
+
+fn word_kind(is_reserved: bool, id: TextId) -> TokenKind
+    ensures { result ≡ spec.word_kind is_reserved id }
+{
+    if is_reserved {
+        TokenKind::Reserved(id)
+    } else {
+        TokenKind::Word(id)
+    }
+}
+
+// The kind of a token, with its text in the table.
+fn kind_of(lexeme: Lexeme<'_>, texts: &mut Texts) -> Result<TokenKind, InternFault>
+    ensures ok { IfOk result (λ kind.
+        spec.kind_of texts.old (lexeme_of lexeme.entry) ≡ Some (kind, texts.new)) }
+    ensures full { IsErrOf result InternFault.TooManyTexts
+        → spec.kind_of texts.old (lexeme_of lexeme.entry) ≡ None }
+    ensures err { OnErr result (texts.new ≡ texts.old) }
+{
+    match lexeme {
+        Lexeme::Word(word) => {
+            let id = texts.intern(word)?;
+            Ok(word_kind(is_reserved(word), id))
+        }
+        Lexeme::Number(n) => Ok(TokenKind::Number(n)),
+        Lexeme::Text(string) => {
+            let id = texts.intern(string.as_str())?;
+            Ok(TokenKind::Text(id))
+        }
+        Lexeme::Punct(punct) => Ok(TokenKind::Punct(punct)),
+    }
+}
+
+fn fault_at(place: u32, fault: InternFault) -> ParseFault
+    ensures { result ≡ fault_at place fault }
+{
+    match fault {
+        InternFault::Memory => ParseFault::Memory,
+        InternFault::TooManyTexts => ParseFault::Refused(Refusal {
+            kind: RefusalKind::TooManyTexts,
+            place,
+        }),
+    }
+}
+
+// Adds the token of a lexeme. Its room is made first, so an `Err` leaves the table as before.
+fn add(
+    lexeme: Lexeme<'_>,
+    start: u32,
+    end: u32,
+    tokens: &mut Vec<Token>,
+    texts: &mut Texts,
+) -> Result<(), ParseFault>
+    ensures ok { OnOk result (AddsToken (lexeme_of lexeme.entry) start end
+        tokens.old.items tokens.new.items texts.old texts.new) }
+    ensures err { IfErr result (IsTooMany (lexeme_of lexeme.entry) start texts.old) }
+    ensures kept { OnErr result (texts.new ≡ texts.old) }
+{
+    if tokens.reserve(1).is_err() {
+        return Err(ParseFault::Memory);
+    }
+    match kind_of(lexeme, texts) {
+        Ok(kind) => {
+            tokens.push_reserved(Token { kind, start, end });
+            Ok(())
+        }
+        Err(fault) => Err(fault_at(start, fault)),
+    }
+}
+
+// Reads the next piece, and gives what is left, or nothing at the end of the script.
+fn advance<'a>(
+    alloc: Global,
+    text: &'a str,
+    place: u32,
+    tokens: &mut Vec<Token>,
+    texts: &mut Texts,
+) -> Result<Option<&'a str>, ParseFault>
+    requires { place + length text.now ≤ 4294967295 }
+    ensures onward { IfOk result (λ left. IfSome left (λ rest.
+        spec.next (at place text.now tokens.old.items texts.old)
+        ≡ spec.onward (at (place + (length text.now - length rest.now)) rest.now
+        tokens.new.items texts.new))) }
+    ensures shorter { IfOk result (λ left. IfSome left (λ rest.
+        length rest.now < length text.now)) }
+    ensures ended { IfOk result (λ left. IfNone left (length text.now ≡ 0)) }
+    ensures tokens_kept { IfOk result (λ left. IfNone left (tokens.new.items ≡ tokens.old.items)) }
+    ensures texts_kept { IfOk result (λ left. IfNone left (texts.new ≡ texts.old)) }
+    ensures err { IfErr result (FailsAt (at place text.now tokens.old.items texts.old)) }
+    ensures kept { OnErr result (texts.new ≡ texts.old) }
+{
+    let Some((first, after)) = first_of(text) else {
+        return Ok(None);
+    };
+    match piece_at(alloc, text, first, after) {
+        Ok(Piece::Gap(rest)) => Ok(Some(rest)),
+        Ok(Piece::Token(lexeme, rest)) => {
+            let end = place + (text.len() - rest.len()) as u32;
+            add(lexeme, place, end, tokens, texts)?;
+            Ok(Some(rest))
+        }
+        Ok(Piece::Fault(kind)) => Err(ParseFault::Refused(Refusal { kind, place })),
+        Err(_) => Err(ParseFault::Memory),
+    }
+}
+
+/// The tokens of one script, and a last one for its end. Places are counted in bytes from `base`.
+///
+/// Each word and each text literal is interned, in order of place. After an `Err` the table has what
+/// it had, and the texts of the tokens before the place reached.
+pub fn tokens(
+    alloc: Global,
+    text: &str,
+    base: u32,
+    texts: &mut Texts,
+) -> Result<Vec<Token>, ParseFault>
+    requires { base + length text.now ≤ 4294967295 }
+    ensures ok { IfOk result (λ tokens.
+        spec.IsRead (spec.start base texts.old (chars text.now)) tokens.items texts.new) }
+    ensures err { IfErr result (spec.Fails (spec.start base texts.old (chars text.now)) texts.new) }
+{
+    let mut tokens = Vec::new(alloc);
+    let mut rest = text;
+    'pieces: loop {
+        let place = base + (text.len() - rest.len()) as u32;
+        match advance(alloc, rest, place, &mut tokens, texts) {
+            Ok(Some(left)) => rest = left,
+            Ok(None) => break 'pieces,
+            Err(fault) => return Err(fault),
+        }
+    }
+    let end = base + text.len() as u32;
+    let last = Token {
+        kind: TokenKind::End,
+        start: end,
+        end,
+    };
+    match tokens.push(last) {
+        Ok(()) => Ok(tokens),
+        Err(_) => Err(ParseFault::Memory),
+    }
+}

@@ -1,0 +1,46 @@
+// Why a text is no accepted set of scripts.
+
+use thiserror::Error;
+
+/// What is wrong with a set of scripts.
+#[derive(Clone, Copy, Debug, PartialEq, Eq)]
+pub enum RefusalKind {
+    /// The bytes are not UTF-8.
+    NotUtf8,
+    /// The place begins no token.
+    BadToken,
+    /// No accepted script goes on with this token.
+    Unexpected,
+    /// A variable is used that no enclosing block declares, or before its declaration in the innermost block that does.
+    Undeclared,
+    /// A block declares a name twice.
+    Twice,
+    /// There is a script too many.
+    TooManyScripts,
+    /// The token opens a construct too many.
+    NestedTooDeep,
+    /// A number literal is above the largest number.
+    NumberTooLarge,
+    /// The text of the token would be one too many.
+    TooManyTexts,
+    /// There is no script.
+    NoScript,
+}
+
+/// What is wrong, and its place: how many bytes stand before it.
+#[derive(Clone, Copy, Debug, PartialEq, Eq)]
+pub struct Refusal {
+    pub kind: RefusalKind,
+    pub place: u32,
+}
+
+/// Why a set of scripts was not read.
+#[derive(Clone, Copy, Debug, PartialEq, Eq, Drop, Error)]
+pub enum ParseFault {
+    /// No memory was left.
+    #[error("out of memory")]
+    Memory,
+    /// The set is not accepted.
+    #[error("not an accepted set of scripts")]
+    Refused(Refusal),
+}
