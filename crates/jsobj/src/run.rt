@@ -2,12 +2,11 @@
 ghost use Rattle.std.specs.Prelude.{◌≡◌, ◌⊎◌, ◌+◌, ◌≤◌, true, false, IfOk, IfSome, Err};
 ghost use Rattle.jo_io.specs.Causes.{Rose};
 ghost use Rattle.jo_model.specs.Names.{UseNamesBelow};
-ghost use Rattle.jo_parse.specs.Form.{IsScript};
 ghost use Rattle.jo_text.specs.Bytes.{ConsumesAtMost, AppendsPrefix};
 ghost use Rattle.jo_value.specs.declared.limits.TheConstants.{MOST_NAMES};
 ghost use Rattle.jo_parse.specs.declared.script.TheConstants.{MOST_BYTES};
 ghost use Rattle.std.specs.Io.KnownBytes.{Appends};
-ghost use Rattle.jsobj.specs.Run.{is_run, usage_line, IsAnswer, IsRefusal, IsUsage, IsDue, IsNoScript, IsAnswerTo, IsOutputOf, Writes, WritesPrefix};
+ghost use Rattle.jsobj.specs.Run.{is_run, IsAnswer, IsRefusal, IsUsage, IsDue, IsNoScript, IsAnswerTo, IsOutputOf, Writes, WritesPrefix};
 
 use jo_io::{Sink, Source};
 use jo_parse::{MOST_BYTES, ParseFault, Parsed, parse_script};
