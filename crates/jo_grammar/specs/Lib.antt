@@ -1,0 +1,4 @@
+pub mod Operators
+pub mod Expressions
+pub mod Statements
+pub mod Refusals

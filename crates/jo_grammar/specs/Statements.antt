@@ -1,0 +1,123 @@
+-- The grammar of statements and scripts.
+use Rattle.std.specs.Prelude.{◌≡◌, ◌≢◌, ℕ, ◌+◌, Bool, true, false, List, [], ◌∷◌, ◌++◌, Option, None, Some}
+use Rattle.jo_lex.specs.declared.punct.Punct.TheVariants as p
+use Rattle.jo_tree.specs.declared.keyword.Keyword.TheVariants as kw
+use Rattle.jo_tree.specs.declared.terminal.Terminal.TheVariants as t
+use Rattle.jo_tree.specs.Trees.{Tree, Binding, Head, declares, begins, Statement, empty, block, when, either, while, for, break, continue, print, print_names, run, Items, no_items, declare, perform}
+use Rattle.jo_grammar.specs.Expressions.{Mark, mark, word, plain, Fits, spelling, first}
+
+-- ---- which statements there are
+
+abbrev pub FitOptional : Bool → Option Tree → Type 0
+FitOptional ins None = Unit {0}
+FitOptional ins (Some e) = Fits ins 1 e
+
+abbrev pub FitAll : List Tree → Type 0
+FitAll [] = Unit {0}
+FitAll (e ∷ es) = Fits true 1 e × FitAll es
+
+-- the first flag says whether there has to be one
+abbrev pub FitBindings : Bool → Bool → List Binding → Type 0
+FitBindings ins some [] = some ≡ false
+FitBindings ins some (b ∷ bs) = FitOptional ins b.1 × FitBindings ins false bs
+
+-- `in` stands in no head outside brackets
+abbrev pub FitHead : Head → Type 0
+FitHead (declares bs) = FitBindings false true bs
+FitHead (begins e) = FitOptional false e
+
+-- no `if` at its end lacks an `else`, so that an `else` behind it is not its own
+abbrev pub Closed : Statement → Type 0
+Closed (when c s) = ⊥
+Closed (either c a b) = Closed b
+Closed (while c s) = Closed s
+Closed (for h c u s) = Closed s
+Closed _ = Unit {0}
+
+-- the flag says whether the statement stands in that of a loop
+abbrev mutual
+  pub FitStatement : Bool → Statement → Type 0
+  FitStatement loops empty = Unit {0}
+  FitStatement loops (block ss) = FitItems loops ss
+  FitStatement loops (when c s) = Fits true 1 c × FitStatement loops s
+  FitStatement loops (either c a b) = Fits true 1 c × FitStatement loops a × Closed a × FitStatement loops b
+  FitStatement loops (while c s) = Fits true 1 c × FitStatement true s
+  FitStatement loops (for h c u s) = FitHead h × FitOptional true c × FitOptional true u × FitStatement true s
+  FitStatement loops break = loops ≡ true
+  FitStatement loops continue = loops ≡ true
+  FitStatement loops (print es) = FitAll es
+  FitStatement loops (print_names e) = Fits true 1 e
+  FitStatement loops (run e) = Fits true 1 e × (first e ≢ t.Punct p.OpenBrace)
+
+  pub FitItems : Bool → Items → Type 0
+  FitItems loops no_items = Unit {0}
+  FitItems loops (declare bs is) = FitBindings true true bs × FitItems loops is
+  FitItems loops (perform s is) = FitStatement loops s × FitItems loops is
+
+-- ---- the tokens that spell a statement, where d constructs are open already
+
+abbrev pub optional : ℕ → Option Tree → List Mark
+optional d None = []
+optional d (Some e) = spelling d e
+
+abbrev pub initial : ℕ → Option Tree → List Mark
+initial d None = []
+initial d (Some e) = (t.Punct p.Assign, d + 1) ∷ spelling (d + 1) e
+
+abbrev pub binding : ℕ → Binding → List Mark
+binding d b = plain (t.Ident b.0) ∷ initial d b.1
+
+abbrev pub more_bindings : ℕ → List Binding → List Mark
+more_bindings d [] = []
+more_bindings d (b ∷ bs) = mark p.Comma ∷ (binding d b ++ more_bindings d bs)
+
+abbrev pub bindings : ℕ → List Binding → List Mark
+bindings d [] = []
+bindings d (b ∷ bs) = binding d b ++ more_bindings d bs
+
+abbrev pub declaration : ℕ → List Binding → List Mark
+declaration d bs = word kw.Let ∷ (bindings d bs ++ mark p.Semicolon ∷ [])
+
+abbrev pub head : ℕ → Head → List Mark
+head d (declares bs) = declaration d bs
+head d (begins e) = optional d e ++ mark p.Semicolon ∷ []
+
+abbrev pub more_arguments : ℕ → List Tree → List Mark
+more_arguments d [] = []
+more_arguments d (e ∷ es) = mark p.Comma ∷ (spelling d e ++ more_arguments d es)
+
+abbrev pub arguments : ℕ → List Tree → List Mark
+arguments d [] = []
+arguments d (e ∷ es) = spelling d e ++ more_arguments d es
+
+-- an expression in round brackets
+abbrev pub bracketed : ℕ → List Mark → List Mark
+bracketed d m = (t.Punct p.OpenParen, d + 1) ∷ (m ++ mark p.CloseParen ∷ [])
+
+-- `if`, `while` and `for` are open up to the end of their last statement
+abbrev mutual
+  pub statement : ℕ → Statement → List Mark
+  statement d empty = mark p.Semicolon ∷ []
+  statement d (block ss) = (t.Punct p.OpenBrace, d + 1) ∷ (items (d + 1) ss ++ mark p.CloseBrace ∷ [])
+  statement d (when c s) = (t.Keyword kw.If, d + 1) ∷ (bracketed (d + 1) (spelling (d + 1 + 1) c) ++ statement (d + 1) s)
+  statement d (either c a b) =
+      (t.Keyword kw.If, d + 1) ∷ (bracketed (d + 1) (spelling (d + 1 + 1) c) ++ (statement (d + 1) a ++ word kw.Else ∷ statement (d + 1) b))
+  statement d (while c s) = (t.Keyword kw.While, d + 1) ∷ (bracketed (d + 1) (spelling (d + 1 + 1) c) ++ statement (d + 1) s)
+  statement d (for h c u s) =
+      (t.Keyword kw.For, d + 1) ∷ (bracketed (d + 1) (head (d + 1 + 1) h ++ (optional (d + 1 + 1) c ++ mark p.Semicolon ∷ optional (d + 1 + 1) u)) ++ statement (d + 1) s)
+  statement d break = word kw.Break ∷ (mark p.Semicolon ∷ [])
+  statement d continue = word kw.Continue ∷ (mark p.Semicolon ∷ [])
+  statement d (print es) = word kw.Print ∷ (bracketed d (arguments (d + 1) es) ++ mark p.Semicolon ∷ [])
+  statement d (print_names e) = word kw.PrintNames ∷ (bracketed d (spelling (d + 1) e) ++ mark p.Semicolon ∷ [])
+  statement d (run e) = spelling d e ++ mark p.Semicolon ∷ []
+
+  pub items : ℕ → Items → List Mark
+  items d no_items = []
+  items d (declare bs is) = declaration d bs ++ items d is
+  items d (perform s is) = statement d s ++ items d is
+
+-- ---- scripts
+
+-- the tokens spell the script
+abbrev pub IsScript : Items → List Mark → Type 0
+IsScript s m = FitItems false s × (m ≡ items 0 s)

@@ -1,0 +1,88 @@
+// Statements and scripts: a type for each rule of the grammar.
+
+use crate::{Expr, Ident};
+use sqlite_items::{Boxed, Items};
+
+/// A script.
+#[derive(Drop)]
+pub struct Script {
+    pub items: Items<Item>,
+}
+
+/// A part of a script or of a block.
+#[cycle(statement)]
+#[derive(Drop)]
+pub enum Item {
+    Let(Let),
+    Statement(Statement),
+}
+
+/// The declarations of one `let`. There is one at least.
+#[derive(Drop)]
+pub struct Let {
+    pub bindings: Items<Binding>,
+}
+
+/// A variable that is declared, with what it is at first.
+#[derive(Drop)]
+pub struct Binding {
+    pub ident: Ident,
+    pub value: Option<Expr>,
+}
+
+/// A statement.
+#[cycle(statement)]
+#[derive(Drop)]
+pub enum Statement {
+    Empty,
+    Block(Block),
+    If(If),
+    While(While),
+    For(For),
+    Break,
+    Continue,
+    Print(Items<Expr>),
+    PrintNames(Expr),
+    Expr(Expr),
+}
+
+/// Items in braces.
+#[cycle(statement)]
+#[derive(Drop)]
+pub struct Block {
+    pub items: Items<Item>,
+}
+
+/// A statement that a condition lets run, and perhaps one that runs otherwise.
+#[cycle(statement)]
+#[derive(Drop)]
+pub struct If {
+    pub condition: Expr,
+    pub then: Boxed<Statement>,
+    pub otherwise: Option<Boxed<Statement>>,
+}
+
+/// A statement that runs again while a condition holds.
+#[cycle(statement)]
+#[derive(Drop)]
+pub struct While {
+    pub condition: Expr,
+    pub body: Boxed<Statement>,
+}
+
+/// A loop with a head of three parts.
+#[cycle(statement)]
+#[derive(Drop)]
+pub struct For {
+    pub head: ForHead,
+    pub condition: Option<Expr>,
+    pub step: Option<Expr>,
+    pub body: Boxed<Statement>,
+}
+
+/// The first part of the head of a `for`.
+#[derive(Drop)]
+pub enum ForHead {
+    Let(Let),
+    Expr(Option<Expr>),
+}

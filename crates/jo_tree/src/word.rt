@@ -1,0 +1,43 @@
+// Words and text literals, as a tree has them.
+
+use crate::Keyword;
+use jo_value::TextId;
+
+/// A word that is not reserved.
+#[derive(Clone, Copy, Debug, PartialEq, Eq)]
+pub struct Ident {
+    /// Its number in the table of texts.
+    pub text: TextId,
+    /// The bytes that stand before it in the input.
+    pub place: u32,
+    /// Whether it reads `__proto__`.
+    pub is_proto: bool,
+}
+
+/// A text literal.
+#[derive(Clone, Copy, Debug, PartialEq, Eq)]
+pub struct Literal {
+    /// The number, in the table of texts, of what it stands for.
+    pub text: TextId,
+    /// Whether it stands for `__proto__`.
+    pub is_proto: bool,
+}
+
+/// Any word, as the name of a property.
+#[derive(Clone, Copy, Debug, PartialEq, Eq)]
+pub enum Name {
+    /// A word that is not reserved.
+    Ident(Ident),
+    /// A reserved word that the grammar names.
+    Keyword(Keyword),
+    /// Any other reserved word, by its number in the table of texts.
+    Reserved(TextId),
+}
+
+/// The key of a property of an object literal.
+#[derive(Clone, Copy, Debug, PartialEq, Eq)]
+pub enum PropKey {
+    Name(Name),
+    Text(Literal),
+    Number(i64),
+}
