@@ -30,20 +30,20 @@ pub struct Binding {
     pub value: Option<Expr>,
 }
 
-/// A statement.
+/// A statement. What is large stands in boxes, so that many small statements take little room.
 #[cycle(statement)]
 #[derive(Drop)]
 pub enum Statement {
     Empty,
     Block(Block),
-    If(If),
-    While(While),
-    For(For),
+    If(Boxed<If>),
+    While(Boxed<While>),
+    For(Boxed<For>),
     Break,
     Continue,
     Print(Items<Expr>),
-    PrintNames(Expr),
-    Expr(Expr),
+    PrintNames(Boxed<Expr>),
+    Expr(Boxed<Expr>),
 }
 
 /// Items in braces.
@@ -58,8 +58,8 @@ pub struct Block {
 #[derive(Drop)]
 pub struct If {
     pub condition: Expr,
-    pub then: Boxed<Statement>,
-    pub otherwise: Option<Boxed<Statement>>,
+    pub then: Statement,
+    pub otherwise: Option<Statement>,
 }
 
 /// A statement that runs again while a condition holds.
@@ -67,7 +67,7 @@ pub struct If {
 #[derive(Drop)]
 pub struct While {
     pub condition: Expr,
-    pub body: Boxed<Statement>,
+    pub body: Statement,
 }
 
 /// A loop with a head of three parts.
@@ -77,7 +77,7 @@ pub struct For {
     pub head: ForHead,
     pub condition: Option<Expr>,
     pub step: Option<Expr>,
-    pub body: Boxed<Statement>,
+    pub body: Statement,
 }
 
 /// The first part of the head of a `for`.
