@@ -23,7 +23,7 @@ pub struct Let {
     pub bindings: Items<Binding>,
 }
 
-/// A variable that is declared, with what it is at first.
+/// A declared variable and its initial value, where it has one.
 #[derive(Drop)]
 pub struct Binding {
     pub ident: Ident,
@@ -53,7 +53,7 @@ pub struct Block {
     pub items: Items<Item>,
 }
 
-/// A statement that a condition lets run, and perhaps one that runs otherwise.
+/// An `if`, with or without an `else`.
 #[cycle(statement)]
 #[derive(Drop)]
 pub struct If {
@@ -62,7 +62,7 @@ pub struct If {
     pub otherwise: Option<Statement>,
 }
 
-/// A statement that runs again while a condition holds.
+/// A `while`.
 #[cycle(statement)]
 #[derive(Drop)]
 pub struct While {
@@ -70,7 +70,7 @@ pub struct While {
     pub body: Statement,
 }
 
-/// A loop with a head of three parts.
+/// A `for`.
 #[cycle(statement)]
 #[derive(Drop)]
 pub struct For {
