@@ -1,9 +1,7 @@
 -- What a reader answers, against the language that it reads.
-use Rattle.std.proofs.Common.{◌≡◌, ◌≢◌, ◌==◌, ◌⊎◌, inl, inr, Bool, true, false, if◌then◌else◌, get_or, zero, suc, ℕ, ◌+◌, ◌≤◌, ◌<◌, List, [], ◌∷◌, ◌++◌, Option, None, Some, Result, Ok, Err, refl, sym, ◌∙◌, ap, subst, append_assoc, arith, length, length-append}
+use Rattle.std.proofs.Common.{◌≡◌, ◌≢◌, ◌==◌, ◌⊎◌, inl, inr, Bool, true, false, if◌then◌else◌, get_or, zero, suc, ℕ, ◌+◌, ◌≤◌, ◌<◌, List, [], ◌∷◌, ◌++◌, Option, None, Some, Ok, Err, refl, sym, ◌∙◌, ap, subst, append_assoc, arith}
 use Rattle.std.proofs.lemmas.Bool.{eqb-true, eq-eqb}
-use Rattle.jo_lex.specs.declared.punct.Punct.{Punct}
 use Rattle.jo_lex.specs.declared.punct.Punct.TheVariants as p
-use Rattle.jo_tree.specs.declared.keyword.Keyword.{Keyword}
 use Rattle.jo_tree.specs.declared.keyword.Keyword.TheVariants as kw
 use Rattle.jo_tree.specs.declared.terminal.Terminal.{Terminal}
 use Rattle.jo_tree.specs.declared.terminal.Terminal.TheVariants as t
@@ -16,7 +14,7 @@ use Rattle.jo_tree.specs.declared.word.PropKey.TheVariants as q
 use Rattle.jo_grammar.specs.Operators.{name_token, key_token, reads_proto}
 use Rattle.jo_grammar.specs.Expressions.{Mark, plain}
 use Rattle.jo_grammar.specs.Refusals.{Language, terms, Within, Fault, unexpected, too_deep}
-use Rattle.jo_grammar.specs.Read.{Reading, Reader, and_then, peek, next, code, sees, expect, open_at, enter, take, name_of, name, key_of, key}
+use Rattle.jo_grammar.specs.Read.{Reading, and_then, peek, next, code, sees, expect, open_at, enter, take, name_of, name, key_of, key}
 
 -- ---- lists of tokens
 
