@@ -54,14 +54,6 @@ rank-of-binary true bin.In stands = refl
 rank-of-binary false bin.In stands = let e : false ≡ true = stands refl in cc
 rank-of-binary ins _ stands = refl
 
-pub level-low : (o : BinaryOperator) → 3 ≤ level_of o
-level-low bin.Or = omega arith
-level-low _ = omega arith
-
-pub level-high : (o : BinaryOperator) → level_of o ≤ 8
-level-high bin.Or = omega arith
-level-high _ = omega arith
-
 punct-assign : (c : Punct) → punct_rank c ≡ 1 → assign_token (assign_of (t.Punct c)) ≡ t.Punct c
 punct-assign p.Assign e = refl
 punct-assign p.PlusAssign e = refl
