@@ -4,3 +4,7 @@ pub mod Tokens
 pub mod Chains
 pub mod Conditions
 pub mod Assignments
+pub mod Exact
+pub mod Accepted
+pub mod Exclusive
+pub mod Whole
