@@ -1,5 +1,6 @@
 pub mod Outcome
 pub mod Levels
+pub mod Bracketed
 pub mod Tokens
 pub mod Chains
 pub mod Conditions
