@@ -1,3 +1,4 @@
 pub mod Outcome
 pub mod Levels
 pub mod Bracketed
+pub mod Operands
