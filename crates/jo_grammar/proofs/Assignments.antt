@@ -7,7 +7,7 @@ use Rattle.jo_tree.specs.Trees.{Tree, number, literal, constant, variable, group
 use Rattle.jo_grammar.specs.Operators.{assign_token}
 use Rattle.jo_grammar.specs.Expressions.{Mark, IsTarget, Fits, spelling}
 use Rattle.jo_grammar.specs.Refusals.{Language, terms}
-use Rattle.jo_grammar.specs.Read.{and_then, open_at, peek, next, rank, assign_of, Below, chains, condition, is_target, assignment}
+use Rattle.jo_grammar.specs.Read.{and_then, open_at, peek, next, rank, assign_of, Below, condition, is_target, assignment}
 use Rattle.jo_grammar.proofs.Outcome.{Outcome, bind, outcome-bind, outcome-choose, Any, nothing, outcome-pure, one, outcome-same, mapped, outcome-if, join, first-of, opened-after}
 use Rattle.jo_grammar.proofs.Levels.{at, Above, ReadsAt, some_tree, nil-right, rank-cons, links-level, Fits-lower, outcome-inner}
 use Rattle.jo_grammar.proofs.Tokens.{assign-token-of, assign-of-token, rank-of-assign}
@@ -135,12 +135,11 @@ module _ (limit d room : ℕ) (sum : d + room ≡ limit) (below : Below) (ih : 0
       (λ v m r k s f. (here-none ins d a (peek ts) e v m r k f, s))
       (Ok (a, ts)) (outcome-pure a (Above ins 1) Any limit ts tt))
 
-  pub outcome-assignment : ((ts : List Terminal) → Outcome (at ins 3 d) (Above ins 3) Any limit ts (chains room below ins 6 3 ts))
-      → (ts : List Terminal) → Outcome (at ins 1 d) (Above ins 1) Any limit ts (assignment room below ins ts)
+  pub outcome-assignment : (ts : List Terminal) → Outcome (at ins 1 d) (Above ins 1) Any limit ts (assignment room below ins ts)
   unfolding assignment
-  outcome-assignment operand ts =
+  outcome-assignment ts =
       outcome-same (assignment_parts ins d) (at ins 1 d) (Above ins 1) Any limit ts (assignment-to ins d) (assignment-from ins d) _
       (outcome-bind (at ins 2 d) (AboveCondition ins) Any (λ a. assignment_rest ins d a) (Above ins 1) Any limit
       (λ a x v y r l k s. assignment-follow ins d a v y r k s)
-      (λ a x l. (a, [], inr (refl, refl))) ts (condition room below ins ts) _ (outcome-condition limit d room sum below ih ins operand ts)
+      (λ a x l. (a, [], inr (refl, refl))) ts (condition room below ins ts) _ (outcome-condition limit d room sum below ih ins ts)
       (λ a x r l g front. assignment-after a r))

@@ -11,6 +11,7 @@ use Rattle.jo_grammar.specs.Refusals.{Language, terms}
 use Rattle.jo_grammar.specs.Read.{and_then, open_at, peek, next, rank, binary_of, with_link, Below, prefixed, links_from, chain_of, chains}
 use Rattle.jo_grammar.proofs.Outcome.{Outcome, bind, outcome-bind, outcome-choose, Any, nothing, outcome-pure, one, outcome-same, mapped, outcome-map, outcome-if, join, opened-after}
 use Rattle.jo_grammar.proofs.Levels.{at, Above, ReadsAt, outcome-below, some_tree, nil-right, not-longer, rank-cons, Fits-lower}
+use Rattle.jo_grammar.proofs.Operands.{outcome-prefixed}
 use Rattle.jo_grammar.proofs.Tokens.{rank-is-binary, binary-of-token, rank-of-binary}
 
 -- ---- lists of links
@@ -129,8 +130,7 @@ chain-from ins d k low high (assign o a b) m h = absurd (omega arith)
 
 -- ---- how they are read, where d constructs are open and there is room for some more
 
-module _ (limit d room : ℕ) (sum : d + room ≡ limit) (below : Below) (ih : 0 < room → ReadsAt limit (d + 1) below) (ins : Bool)
-    (operand : (ts : List Terminal) → Outcome (at ins 9 d) (Above ins 9) Any limit ts (prefixed room below ts)) where
+module _ (limit d room : ℕ) (sum : d + room ≡ limit) (below : Below) (ih : 0 < room → ReadsAt limit (d + 1) below) (ins : Bool) where
   -- no operator of the level stands here
   links-end : (k : ℕ) (found : Links) (ts : List Terminal) → (rank ins (peek ts) ≡ k → ⊥) → Outcome (a_links ins d k found) (Above ins k) Any limit ts (Ok (found, ts))
   links-end k found ts away = outcome-choose (nothing found) (a_links ins d k found) (Above ins k) (Above ins k) Any Any limit ts (links-none ins d k found) (λ _ _ _ _ _. tt)
@@ -164,7 +164,7 @@ module _ (limit d room : ℕ) (sum : d + room ≡ limit) (below : Below) (ih : 0
 
   pub outcome-chains : (n k : ℕ) → 3 ≤ k → k + n ≡ 9 → (ts : List Terminal) → Outcome (at ins k d) (Above ins k) Any limit ts (chains room below ins n k ts)
   unfolding chains
-  outcome-chains zero k low all ts = let nine : 9 ≡ k = omega arith in subst (λ z. Outcome (at ins z d) (Above ins z) Any limit ts (prefixed room below ts)) nine (operand ts)
+  outcome-chains zero k low all ts = let nine : 9 ≡ k = omega arith in subst (λ z. Outcome (at ins z d) (Above ins z) Any limit ts (prefixed room below ts)) nine (outcome-prefixed limit d room sum below ih ins ts)
   outcome-chains (suc n) k low all ts =
       outcome-same (chain_parts ins d k) (at ins k d) (Above ins k) Any limit ts (chain-to ins d k) (chain-from ins d k low (omega arith)) _
       (outcome-bind (at ins (k + 1) d) (Above ins (k + 1)) Any (λ e. mapped (chain_of k e) (a_links ins d k no_links)) (Above ins k) Any limit

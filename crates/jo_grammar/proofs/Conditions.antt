@@ -9,6 +9,7 @@ use Rattle.jo_grammar.specs.Refusals.{Language, terms}
 use Rattle.jo_grammar.specs.Read.{and_then, open_at, peek, next, sees, rank, Below, chains, choice, condition}
 use Rattle.jo_grammar.proofs.Outcome.{Stops, Outcome, bind, outcome-bind, outcome-choose, Any, nothing, outcome-pure, one, outcome-same, mapped, join, first-of, some-after, outcome-sees, opened-after}
 use Rattle.jo_grammar.proofs.Levels.{at, Above, ReadsAt, some_tree, nil-right, links-level, Fits-lower, closed_by, outcome-closed, outcome-inner}
+use Rattle.jo_grammar.proofs.Chains.{outcome-chains}
 
 -- what may follow a condition: an operator that assigns only where it is a target
 abbrev pub AboveCondition : Bool → Stops Tree
@@ -116,12 +117,11 @@ module _ (limit d room : ℕ) (sum : d + room ≡ limit) (below : Below) (ih : 0
       (λ v m r k s e. (k, choice-stops ins v (peek r) a k.0 k.4.4.0 k.4.4.2 s)) _ (outcome-choice limit (d + 1) below (ih pos) ins a (next ts))))
       (λ _. outcome-pure a (AboveCondition ins) Any limit ts tt)
 
-  pub outcome-condition : ((ts : List Terminal) → Outcome (at ins 3 d) (Above ins 3) Any limit ts (chains room below ins 6 3 ts))
-      → (ts : List Terminal) → Outcome (at ins 2 d) (AboveCondition ins) Any limit ts (condition room below ins ts)
+  pub outcome-condition : (ts : List Terminal) → Outcome (at ins 2 d) (AboveCondition ins) Any limit ts (condition room below ins ts)
   unfolding condition
-  outcome-condition operand ts =
+  outcome-condition ts =
       outcome-same (condition_parts ins d) (at ins 2 d) (AboveCondition ins) Any limit ts (condition-to ins d) (condition-from ins d) _
       (outcome-bind (at ins 3 d) (Above ins 3) Any (λ a. condition_rest ins d a) (AboveCondition ins) Any limit
       (λ a x v y r l k s. condition-follow ins d a v y r k s)
-      (λ a x l. (a, [], inr (refl, refl))) ts (chains room below ins 6 3 ts) _ (operand ts)
+      (λ a x l. (a, [], inr (refl, refl))) ts (chains room below ins 6 3 ts) _ (outcome-chains limit d room sum below ih ins 6 3 (omega arith) (omega arith) ts)
       (λ a x r l g front. condition-after a r))

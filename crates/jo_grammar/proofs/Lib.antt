@@ -1,6 +1,7 @@
 pub mod Outcome
 pub mod Levels
 pub mod Bracketed
+pub mod Operands
 pub mod Tokens
 pub mod Chains
 pub mod Conditions
