@@ -1,0 +1,12 @@
+pub mod Outcome
+pub mod Levels
+pub mod Bracketed
+pub mod Operands
+pub mod Tokens
+pub mod Chains
+pub mod Conditions
+pub mod Assignments
+pub mod Exact
+pub mod Accepted
+pub mod Exclusive
+pub mod Whole
