@@ -4,7 +4,6 @@ use Rattle.jo_lex.specs.declared.punct.Punct.{Punct}
 use Rattle.jo_lex.specs.declared.punct.Punct.TheVariants as p
 use Rattle.jo_tree.specs.declared.keyword.Keyword.{Keyword}
 use Rattle.jo_tree.specs.declared.keyword.Keyword.TheVariants as kw
-use Rattle.jo_tree.specs.declared.operator.BinaryOperator.{BinaryOperator}
 use Rattle.jo_tree.specs.declared.operator.BinaryOperator.TheVariants as bin
 use Rattle.jo_tree.specs.declared.terminal.Terminal.{Terminal}
 use Rattle.jo_tree.specs.declared.terminal.Terminal.TheVariants as t
