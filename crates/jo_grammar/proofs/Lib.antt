@@ -1,2 +1,5 @@
 pub mod Outcome
 pub mod Levels
+pub mod First
+pub mod Separated
+pub mod Declarations
