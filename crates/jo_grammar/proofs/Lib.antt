@@ -4,3 +4,6 @@ pub mod Bracketed
 pub mod First
 pub mod Separated
 pub mod Declarations
+pub mod Parts
+pub mod Items
+pub mod Headed
