@@ -7,3 +7,5 @@ pub mod Declarations
 pub mod Parts
 pub mod Items
 pub mod Headed
+pub mod StatementKinds
+pub mod StatementsExact
