@@ -1,6 +1,15 @@
 pub mod Outcome
 pub mod Levels
 pub mod Bracketed
+pub mod Operands
+pub mod Tokens
+pub mod Chains
+pub mod Conditions
+pub mod Assignments
+pub mod Exact
+pub mod Accepted
+pub mod Exclusive
+pub mod Whole
 pub mod First
 pub mod Separated
 pub mod Declarations
