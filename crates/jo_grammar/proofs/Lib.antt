@@ -18,3 +18,5 @@ pub mod Items
 pub mod Headed
 pub mod StatementKinds
 pub mod StatementsExact
+pub mod Sequence
+pub mod ScriptExact
