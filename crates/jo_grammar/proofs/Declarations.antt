@@ -11,12 +11,9 @@ use Rattle.jo_grammar.specs.Refusals.{Language, terms, unexpected}
 use Rattle.jo_grammar.specs.Read.{and_then, peek, next, rank, read}
 use Rattle.jo_grammar.specs.ReadStatements.{ident_of, ident, initial_at, binding_at, bindings_from, let_after}
 use Rattle.jo_grammar.proofs.Outcome.{Outcome, bind, outcome-bind, Any, nothing, outcome-pure, one, outcome-same, mapped, outcome-map, join, outcome-sees, first-of, opened-with, a_token, outcome-take}
-use Rattle.jo_grammar.proofs.Levels.{at, Above, ReadsAt, some_tree, outcome-below, outcome-inner, not-longer}
+use Rattle.jo_grammar.proofs.Levels.{at, Above, some_tree, outcome-below, outcome-inner, not-longer}
+use Rattle.jo_grammar.proofs.Exact.{outcome-read}
 use Rattle.jo_grammar.proofs.Separated.{elements, elements_end, some_elements, outcome-element, outcome-no-element, outcome-elements}
-
--- expressions are read exactly at each depth that the limit leaves
-abbrev pub ReadsExpressions : ℕ → Type 0
-ReadsExpressions limit = (room d : ℕ) → d + room ≡ limit → ReadsAt limit d (read room)
 
 -- ---- words
 
@@ -125,13 +122,13 @@ some_let ins d = let b = some_binding ins d in (b.0 ∷ [], b.1 ++ mark p.Semico
 
 -- ---- how they are read
 
-module _ (limit : ℕ) (reads : ReadsExpressions limit) (d room : ℕ) (sum : d + room ≡ limit) (ins : Bool) where
+module _ (limit d room : ℕ) (sum : d + room ≡ limit) (ins : Bool) where
   pub outcome-initial : (ts : List Terminal) → Outcome (an_initial ins d) (Above ins 1) Any limit ts (initial_at room ins ts)
   unfolding initial_at
   outcome-initial ts =
       outcome-sees (t.Punct p.Assign) (an_initial ins d) (assigned ins d) (nothing None) (Above ins 1) Any limit ts _ _ (omega arith) (assigned-to ins d) (none-to ins d) (λ v m r k s. initial-split ins d v m r k s)
       (λ e. opened-with (t.Punct p.Assign) d room limit ts (mapped Some (at ins 1 (d + 1))) (Above ins 1) Any _ e sum (let i = some_tree ins 1 (d + 1) in (Some i.0, i.1, (i.0, i.2, refl)))
-      (λ inner deep. outcome-inner limit (d + 1) (read inner) (reads inner (d + 1) deep) ins Some (next ts)))
+      (λ inner deep. outcome-inner limit (d + 1) (read inner) (outcome-read inner limit (d + 1) deep) ins Some (next ts)))
       (λ _. outcome-pure None (Above ins 1) Any limit ts tt)
 
   pub outcome-binding : (ts : List Terminal) → Outcome (a_binding ins d) (Above ins 1) Any limit ts (binding_at room ins ts)

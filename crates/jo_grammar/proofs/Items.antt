@@ -12,7 +12,7 @@ use Rattle.jo_grammar.specs.Read.{Reader, and_then, peek, next}
 use Rattle.jo_grammar.specs.ReadStatements.{let_after, Item, a_declaration, a_statement, with_item, item_at, block_from}
 use Rattle.jo_grammar.proofs.Outcome.{Stops, Outcome, bind, outcome-bind, Any, nothing, outcome-pure, one, outcome-fail, outcome-if, mapped, outcome-map, join, terms-split, outcome-sees, first-of, plain-after}
 use Rattle.jo_grammar.proofs.First.{begins_statement, statement-begins, statement_language}
-use Rattle.jo_grammar.proofs.Declarations.{ReadsExpressions, a_let, some_let, outcome-let}
+use Rattle.jo_grammar.proofs.Declarations.{a_let, some_let, outcome-let}
 
 -- an `else` follows only a closed statement
 abbrev pub Open : Stops Statement
@@ -185,13 +185,13 @@ open-item (a_statement s) c h = λ e. absurd (h e)
 
 -- ---- how they are read
 
-module _ (limit : ℕ) (reads : ReadsExpressions limit) (loops : Bool) (d room : ℕ) (sum : d + room ≡ limit) (reader : Reader Statement) (ih : (ts : List Terminal) → Outcome (statement_language loops d) Open Open limit ts (reader ts)) where
+module _ (limit : ℕ) (loops : Bool) (d room : ℕ) (sum : d + room ≡ limit) (reader : Reader Statement) (ih : (ts : List Terminal) → Outcome (statement_language loops d) Open Open limit ts (reader ts)) where
   pub outcome-item : (ts : List Terminal) → Outcome (item_language loops d) OpenItem OpenItem limit ts (item_at room reader ts)
   unfolding item_at
   outcome-item ts =
       outcome-sees (t.Keyword kw.Let) (item_language loops d) (let_item d) (statement_item loops d) OpenItem OpenItem limit ts _ _ (omega arith) (let-to loops d) (statement-to loops d) (λ x m r k s. item-split loops d x m r k)
       (λ e. plain-after (t.Keyword kw.Let) d 0 limit ts (mapped a_declaration (a_let true d)) OpenItem OpenItem _ e (let b = some_let true d in (a_declaration b.0, b.1, (b.0, b.2, refl)))
-      (outcome-map a_declaration (a_let true d) Any Any OpenItem OpenItem limit (next ts) (λ _ _ _ _ s. tt) (λ _ _ _ _ g. tt) _ (outcome-let limit reads d room sum true (next ts))))
+      (outcome-map a_declaration (a_let true d) Any Any OpenItem OpenItem limit (next ts) (λ _ _ _ _ s. tt) (λ _ _ _ _ g. tt) _ (outcome-let limit d room sum true (next ts))))
       (λ _. outcome-map a_statement (statement_language loops d) Open Open OpenItem OpenItem limit ts (λ _ _ _ _ s. s) (λ _ _ _ _ g. g) (reader ts) (ih ts))
 
   pub outcome-items : (n : ℕ) (found : Items) (ts : List Terminal) → length ts ≤ n → Outcome (items_end loops d brace found) Any Any limit ts (block_from room reader n found ts)

@@ -13,10 +13,11 @@ use Rattle.jo_grammar.specs.Read.{and_then, peek, next, punct_rank, rank, read}
 use Rattle.jo_grammar.specs.ReadStatements.{in_brackets_at, optional_ended, let_after, head_at, arguments_from, arguments_after}
 use Rattle.jo_grammar.proofs.Outcome.{Outcome, bind, outcome-bind, Any, nothing, outcome-pure, one, outcome-same, mapped, outcome-map, join, terms-split, outcome-sees, first-of, plain-after, outcome-enter}
 use Rattle.jo_grammar.proofs.Levels.{at, Above, some_tree, outcome-below, closed_by, outcome-closed}
+use Rattle.jo_grammar.proofs.Exact.{outcome-read}
 use Rattle.jo_grammar.proofs.Bracketed.{an_ended, some_ended, outcome-ended}
 use Rattle.jo_grammar.proofs.First.{begins_tree, not-first}
 use Rattle.jo_grammar.proofs.Separated.{ends-list, elements, elements_end, some_elements, outcome-element, outcome-no-element, outcome-elements}
-use Rattle.jo_grammar.proofs.Declarations.{ReadsExpressions, a_let, some_let, outcome-let}
+use Rattle.jo_grammar.proofs.Declarations.{a_let, some_let, outcome-let}
 
 -- ---- an expression in round brackets, where d constructs are open
 
@@ -147,19 +148,19 @@ flat-rank false c h = h
 flat-below : (c : Punct) → punct_rank c ≡ 0 → rank true (t.Punct c) < 1
 flat-below c h = omega arith
 
-module _ (limit : ℕ) (reads : ReadsExpressions limit) (d room : ℕ) (sum : d + room ≡ limit) where
+module _ (limit d room : ℕ) (sum : d + room ≡ limit) where
   pub outcome-brackets : (ts : List Terminal) → Outcome (in_brackets d) Any Any limit ts (in_brackets_at room ts)
   unfolding in_brackets_at
   outcome-brackets ts = outcome-same (brackets_parts d) (in_brackets d) Any Any limit ts (brackets-to d) (brackets-from d) _
       (outcome-enter (t.Punct p.OpenParen) d room limit ts (an_ended (d + 1) p.CloseParen) Any Any _ (omega arith) sum (some_ended (d + 1) p.CloseParen)
-      (λ inner deep. outcome-ended limit (d + 1) (read inner) (reads inner (d + 1) deep) p.CloseParen refl (next ts)))
+      (λ inner deep. outcome-ended limit (d + 1) (read inner) (outcome-read inner limit (d + 1) deep) p.CloseParen refl (next ts)))
 
   pub outcome-optional : (ins : Bool) (c : Punct) → begins_tree (t.Punct c) ≡ false → punct_rank c ≡ 0 → (ts : List Terminal) → Outcome (an_optional ins d c) Any Any limit ts (optional_ended room ins c ts)
   unfolding optional_ended
   outcome-optional ins c h flat ts =
       outcome-sees (t.Punct c) (an_optional ins d c) (only_end c) (tree_end ins d c) Any Any limit ts _ _ (omega arith) (end-to ins d c) (tree-to ins d c) (λ v m r k s. optional-split ins d c h v m r k)
       (λ e. plain-after (t.Punct c) d 0 limit ts (nothing None) Any Any (Ok (None, next ts)) e (None, [], (refl, refl)) (outcome-pure None Any Any limit (next ts) tt))
-      (λ _. outcome-closed limit d (read room) (reads room d sum) ins (t.Punct c) (λ e. nothing (Some e)) Any Any (omega arith) (flat-rank ins c flat) (λ e. (Some e, [], (refl, refl))) (λ e r. Ok (Some e, r)) ts
+      (λ _. outcome-closed limit d (read room) (outcome-read room limit d sum) ins (t.Punct c) (λ e. nothing (Some e)) Any Any (omega arith) (flat-rank ins c flat) (λ e. (Some e, [], (refl, refl))) (λ e r. Ok (Some e, r)) ts
       (λ e r short. outcome-pure (Some e) Any Any limit r tt))
 
   pub outcome-head : (ts : List Terminal) → Outcome (a_head d) Any Any limit ts (head_at room ts)
@@ -167,11 +168,11 @@ module _ (limit : ℕ) (reads : ReadsExpressions limit) (d room : ℕ) (sum : d 
   outcome-head ts =
       outcome-sees (t.Keyword kw.Let) (a_head d) (head_let d) (head_tree d) Any Any limit ts _ _ (omega arith) (head-let-to d) (head-tree-to d) (λ h m r k s. head-split d h m r k)
       (λ e. plain-after (t.Keyword kw.Let) d 0 limit ts (mapped declares (a_let false d)) Any Any _ e (let b = some_let false d in (declares b.0, b.1, (b.0, b.2, refl)))
-      (outcome-map declares (a_let false d) Any Any Any Any limit (next ts) (λ _ _ _ _ s. s) (λ _ _ _ _ g. g) _ (outcome-let limit reads d room sum false (next ts))))
+      (outcome-map declares (a_let false d) Any Any Any Any limit (next ts) (λ _ _ _ _ s. s) (λ _ _ _ _ g. g) _ (outcome-let limit d room sum false (next ts))))
       (λ _. outcome-map begins (an_optional false d p.Semicolon) Any Any Any Any limit ts (λ _ _ _ _ s. s) (λ _ _ _ _ g. g) _ (outcome-optional false p.Semicolon refl refl ts))
 
   one_argument : (ts : List Terminal) → Outcome (at true 1 d) (Above true 1) Any limit ts (read room true 1 ts)
-  one_argument ts = outcome-below limit d (read room) (reads room d sum) true 1 (inl refl) ts
+  one_argument ts = outcome-below limit d (read room) (outcome-read room limit d sum) true 1 (inl refl) ts
 
   pub outcome-arguments-from : (n : ℕ) (found : List Tree) (ts : List Terminal) → length ts ≤ n
       → Outcome (elements_end (at true 1 d) (t.Punct p.CloseParen) found) Any Any limit ts (arguments_from room n found ts)

@@ -73,7 +73,7 @@ module _ (limit : ℕ) where
   script-from (suc n) found (c ∷ r) h =
       answers-same (an_item false 0 [] found) (script_rest found) some_text text-longer (item-to false 0 [] found) (rest-item found) limit (c ∷ r) (λ e. cc) _
       (item-answers found (c ∷ r) (item_at limit (read_statement limit false) (c ∷ r))
-      (outcome-item limit (λ room d sum. outcome-read room limit d sum) false 0 limit (omega arith) (read_statement limit false) (λ ts. outcome-statement limit (λ room d sum. outcome-read room limit d sum) limit 0 (omega arith) false ts) (c ∷ r))
+      (outcome-item limit false 0 limit (omega arith) (read_statement limit false) (λ ts. outcome-statement limit limit 0 (omega arith) false ts) (c ∷ r))
       (λ x r. script_from limit n (with_item found x) r) (λ x s short. script-from n (with_item found x) s (omega arith)))
 
 -- ---- the whole, and no other answer

@@ -14,8 +14,8 @@ use Rattle.jo_grammar.specs.Read.{Reading, Reader, and_then, peek, next, code, s
 use Rattle.jo_grammar.specs.ReadStatements.{Within, in_brackets_at, optional_ended, head_at, arguments_after, run_at, print_after, print_names_after, leave_at, else_after, if_after, while_after, for_after, block_from, block_after, keyword_statement, punct_statement, statement_at, nothing_within, read_statement}
 use Rattle.jo_grammar.proofs.Outcome.{Stops, Outcome, bind, outcome-bind, outcome-choose, Any, nothing, outcome-pure, one, outcome-fail, outcome-if, mapped, outcome-map, sees-true, sees-cons, sees-false, peek-cons, first-of, some-after, outcome-expect, opened-with, plain-after, outcome-enter}
 use Rattle.jo_grammar.proofs.Levels.{outcome-closed}
+use Rattle.jo_grammar.proofs.Exact.{outcome-read}
 use Rattle.jo_grammar.proofs.First.{statement_language}
-use Rattle.jo_grammar.proofs.Declarations.{ReadsExpressions}
 use Rattle.jo_grammar.proofs.Parts.{in_brackets, some_brackets, an_optional, some_optional, a_head, some_head, all_arguments, some_arguments, outcome-brackets, outcome-optional, outcome-head, outcome-arguments}
 use Rattle.jo_grammar.proofs.Items.{Open, items_end, some_items, brace, outcome-items}
 use Rattle.jo_grammar.proofs.Headed.{outcome-headed}
@@ -100,22 +100,22 @@ outcome-semicolon s limit ts = outcome-bind (one (t.Punct p.Semicolon) 0) Any An
 
 -- ---- what stands within a statement, where d constructs are open
 
-module _ (limit : ℕ) (reads : ReadsExpressions limit) (d room : ℕ) (sum : d + room ≡ limit) where
+module _ (limit d room : ℕ) (sum : d + room ≡ limit) where
   -- `print` behind its word
   outcome-print : (ts : List Terminal) → Outcome (print_parts d) Any Any limit ts (print_after room ts)
   unfolding print_after
   outcome-print ts = outcome-enter (t.Punct p.OpenParen) d room limit ts (print_arguments d) Any Any _ (omega arith) sum (some_print d)
       (λ inner deep. outcome-bind (all_arguments (d + 1)) Any Any (λ es. semicolon (print es)) Any Any limit (λ _ _ _ _ _ _ _ _. tt) (λ es _ _. some_semicolon (print es)) (next ts) (arguments_after inner (next ts)) _
-      (outcome-arguments limit reads (d + 1) inner deep (next ts)) (λ es x r l g front. outcome-semicolon (print es) limit r))
+      (outcome-arguments limit (d + 1) inner deep (next ts)) (λ es x r l g front. outcome-semicolon (print es) limit r))
 
   outcome-names : (ts : List Terminal) → Outcome (names_parts d) Any Any limit ts (print_names_after room ts)
   unfolding print_names_after
   outcome-names ts = outcome-bind (in_brackets d) Any Any (λ e. semicolon (print_names e)) Any Any limit (λ _ _ _ _ _ _ _ _. tt) (λ e _ _. some_semicolon (print_names e)) ts (in_brackets_at room ts) _
-      (outcome-brackets limit reads d room sum ts) (λ e x r l g front. outcome-semicolon (print_names e) limit r)
+      (outcome-brackets limit d room sum ts) (λ e x r l g front. outcome-semicolon (print_names e) limit r)
 
   outcome-run : (ts : List Terminal) → Outcome (a_run d) Any Any limit ts (run_at room ts)
   unfolding run_at
-  outcome-run ts = outcome-closed limit d (read room) (reads room d sum) true (t.Punct p.Semicolon) (λ e. nothing (run e)) Any Any (omega arith) refl (λ e. (run e, [], (refl, refl))) (λ e r. Ok (run e, r)) ts
+  outcome-run ts = outcome-closed limit d (read room) (outcome-read room limit d sum) true (t.Punct p.Semicolon) (λ e. nothing (run e)) Any Any (omega arith) refl (λ e. (run e, [], (refl, refl))) (λ e r. Ok (run e, r)) ts
       (λ e r short. outcome-pure (run e) Any Any limit r tt)
 
   module _ (within : Within) (ih : (loops : Bool) (ts : List Terminal) → Outcome (statement_language loops d) Open Open limit ts (within loops ts)) where
@@ -147,7 +147,7 @@ module _ (limit : ℕ) (reads : ReadsExpressions limit) (d room : ℕ) (sum : d 
     outcome-if-after : (loops : Bool) (ts : List Terminal) → Outcome (if_parts loops d) Open Open limit ts (if_after room within loops ts)
     unfolding if_after
     outcome-if-after loops ts = outcome-bind (in_brackets d) Any Any (λ c. then_part loops d c) Open Open limit (λ _ _ _ _ _ _ _ _. tt) (λ c _ _. some_then loops d c) ts (in_brackets_at room ts) _
-        (outcome-brackets limit reads d room sum ts) (λ c x r l g front. outcome-then loops c r)
+        (outcome-brackets limit d room sum ts) (λ c x r l g front. outcome-then loops c r)
 
     -- the body of a loop
     outcome-body : (f : Statement → Statement) → ((s : Statement) (c : Terminal) → Open (f s) c → Open s c) → ((s : Statement) (c : Terminal) → Open s c → Open (f s) c) → (ts : List Terminal)
@@ -157,27 +157,27 @@ module _ (limit : ℕ) (reads : ReadsExpressions limit) (d room : ℕ) (sum : d 
     outcome-while-after : (ts : List Terminal) → Outcome (while_parts d) Open Open limit ts (while_after room within ts)
     unfolding while_after
     outcome-while-after ts = outcome-bind (in_brackets d) Any Any (λ c. mapped (while c) (statement_language true d)) Open Open limit (λ _ _ _ _ _ _ _ _. tt) (λ c _ _. some_while_body d c) ts (in_brackets_at room ts) _
-        (outcome-brackets limit reads d room sum ts) (λ c x r l g front. outcome-body (while c) (λ _ _ s. s) (λ _ _ s. s) r)
+        (outcome-brackets limit d room sum ts) (λ c x r l g front. outcome-body (while c) (λ _ _ s. s) (λ _ _ s. s) r)
 
     outcome-for-after : (ts : List Terminal) → Outcome (for_parts d) Open Open limit ts (for_after room within ts)
     unfolding for_after
     outcome-for-after ts = outcome-enter (t.Punct p.OpenParen) d room limit ts (for_head d) Open Open _ (omega arith) sum (some_for_head d)
         (λ deep de. outcome-bind (a_head (d + 1)) Any Any (λ h. for_condition d h) Open Open limit (λ _ _ _ _ _ _ _ _. tt) (λ h _ _. some_for_condition d h) (next ts) (head_at deep (next ts)) _
-        (outcome-head limit reads (d + 1) deep de (next ts))
+        (outcome-head limit (d + 1) deep de (next ts))
         (λ h x r l g front. outcome-bind (an_optional true (d + 1) p.Semicolon) Any Any (λ c. for_step d h c) Open Open limit (λ _ _ _ _ _ _ _ _. tt) (λ c _ _. some_for_step d h c) r (optional_ended deep true p.Semicolon r) _
-        (outcome-optional limit reads (d + 1) deep de true p.Semicolon refl refl r)
+        (outcome-optional limit (d + 1) deep de true p.Semicolon refl refl r)
         (λ c x r l g front. outcome-bind (an_optional true (d + 1) p.CloseParen) Any Any (λ u. for_body d h c u) Open Open limit (λ _ _ _ _ _ _ _ _. tt) (λ u _ _. some_for_body d h c u) r (optional_ended deep true p.CloseParen r) _
-        (outcome-optional limit reads (d + 1) deep de true p.CloseParen refl refl r)
+        (outcome-optional limit (d + 1) deep de true p.CloseParen refl refl r)
         (λ u x r l g front. outcome-body (for h c u) (λ _ _ s. s) (λ _ _ s. s) r))))
 
     outcome-block : (loops : Bool) (ts : List Terminal) → Outcome (mapped block (items_end loops d brace no_items)) Any Any limit ts (block_after room (within loops) ts)
     unfolding block_after
     outcome-block loops ts = outcome-map block (items_end loops d brace no_items) Any Any Any Any limit ts (λ _ _ _ _ _. tt) (λ _ _ _ _ _. tt) _
-        (outcome-items limit reads loops d room sum (within loops) (ih loops) (length ts) no_items ts (omega arith))
+        (outcome-items limit loops d room sum (within loops) (ih loops) (length ts) no_items ts (omega arith))
 
 -- ---- a statement by its first token, where d constructs are open
 
-module _ (limit : ℕ) (reads : ReadsExpressions limit) (d room : ℕ) (sum : d + room ≡ limit) (within : Within)
+module _ (limit d room : ℕ) (sum : d + room ≡ limit) (within : Within)
     (ih : 0 < room → (loops : Bool) (ts : List Terminal) → Outcome (statement_language loops (d + 1)) Open Open limit ts (within loops ts)) (loops : Bool) where
   module _ (ts : List Terminal) (c : Terminal) (here : peek ts ≡ c) where
     kind-of : (v : Statement) (m : List Mark) (r : List Terminal) → statement_language loops d v m → peek (terms m ++ r) ≡ peek ts → kind loops d c v m
@@ -196,7 +196,7 @@ module _ (limit : ℕ) (reads : ReadsExpressions limit) (d room : ℕ) (sum : d 
         outcome-headed (a_run d) (statement_language loops d) Any Open Any Open limit ts (some_statement loops d)
         (λ v m r k f. run-to loops d v m r (λ h. away (sym here ∙ (sym f ∙ h))) k) (λ v m _ k _ _. run-closed d v m k)
         (λ v m r k s f. (flat-run loops d v m (from v m (kind-of v m r k f)), tt))
-        (run_at room ts) (outcome-run limit reads d room sum ts)
+        (run_at room ts) (outcome-run limit d room sum ts)
 
   -- `break` or `continue`
   outcome-leave : (w : Keyword) (s : Statement) → Closed s → ((v : Statement) (m : List Mark) → (loops ≡ true) × a_leave w s v m → statement_language loops d v m)
@@ -213,20 +213,20 @@ module _ (limit : ℕ) (reads : ReadsExpressions limit) (d room : ℕ) (sum : d 
   keyword-here : (w : Keyword) (ts : List Terminal) → peek ts ≡ t.Keyword w → Outcome (statement_language loops d) Open Open limit ts (keyword_statement room within loops w ts)
   keyword-here kw.If ts here = open-kind ts (t.Keyword kw.If) here _ (if-to loops d)
       (opened-with (t.Keyword kw.If) d room limit ts (if_parts loops (d + 1)) Open Open _ (peek-cons (t.Keyword kw.If) ts (λ e. omega arith) here) sum (some_if loops (d + 1))
-      (λ inner deep. outcome-if-after limit reads (d + 1) inner deep within (ih (omega arith)) loops (next ts)))
+      (λ inner deep. outcome-if-after limit (d + 1) inner deep within (ih (omega arith)) loops (next ts)))
   keyword-here kw.While ts here = open-kind ts (t.Keyword kw.While) here _ (while-to loops d)
       (opened-with (t.Keyword kw.While) d room limit ts (while_parts (d + 1)) Open Open _ (peek-cons (t.Keyword kw.While) ts (λ e. omega arith) here) sum (some_while (d + 1))
-      (λ inner deep. outcome-while-after limit reads (d + 1) inner deep within (ih (omega arith)) (next ts)))
+      (λ inner deep. outcome-while-after limit (d + 1) inner deep within (ih (omega arith)) (next ts)))
   keyword-here kw.For ts here = open-kind ts (t.Keyword kw.For) here _ (for-to loops d)
       (opened-with (t.Keyword kw.For) d room limit ts (for_parts (d + 1)) Open Open _ (peek-cons (t.Keyword kw.For) ts (λ e. omega arith) here) sum (some_for (d + 1))
-      (λ inner deep. outcome-for-after limit reads (d + 1) inner deep within (ih (omega arith)) (next ts)))
+      (λ inner deep. outcome-for-after limit (d + 1) inner deep within (ih (omega arith)) (next ts)))
   keyword-here kw.Break ts here = outcome-leave kw.Break break tt (break-to loops d) (λ v m k. k) ts here
   keyword-here kw.Continue ts here = outcome-leave kw.Continue continue tt (continue-to loops d) (λ v m k. k) ts here
   keyword-here kw.Print ts here = closed-kind ts (t.Keyword kw.Print) here _ (print-to loops d) (print-closed d)
       (plain-after (t.Keyword kw.Print) d 0 limit ts (print_parts d) Any Any _ (peek-cons (t.Keyword kw.Print) ts (λ e. omega arith) here) (some-after (t.Punct p.OpenParen) (d + 1) (print_arguments d) (some_print d))
-      (outcome-print limit reads d room sum (next ts)))
+      (outcome-print limit d room sum (next ts)))
   keyword-here kw.PrintNames ts here = closed-kind ts (t.Keyword kw.PrintNames) here _ (names-to loops d) (names-closed d)
-      (plain-after (t.Keyword kw.PrintNames) d 0 limit ts (names_parts d) Any Any _ (peek-cons (t.Keyword kw.PrintNames) ts (λ e. omega arith) here) (some_names d) (outcome-names limit reads d room sum (next ts)))
+      (plain-after (t.Keyword kw.PrintNames) d 0 limit ts (names_parts d) Any Any _ (peek-cons (t.Keyword kw.PrintNames) ts (λ e. omega arith) here) (some_names d) (outcome-names limit d room sum (next ts)))
   keyword-here w ts here = other-kind ts (t.Keyword w) here (λ e. cc) (λ v m k. k)
 
   outcome-empty : (ts : List Terminal) → peek ts ≡ t.Punct p.Semicolon → Outcome an_empty Any Any limit ts (Ok (empty, next ts))
@@ -243,7 +243,7 @@ module _ (limit : ℕ) (reads : ReadsExpressions limit) (d room : ℕ) (sum : d 
   punct-here p.Semicolon ts here = closed-kind ts (t.Punct p.Semicolon) here (Ok (empty, next ts)) (empty-to loops d) (λ v m k. closed-as v empty k.0 tt) (outcome-empty ts here)
   punct-here p.OpenBrace ts here = closed-kind ts (t.Punct p.OpenBrace) here _ (block-to loops d) (block-closed loops d)
       (opened-with (t.Punct p.OpenBrace) d room limit ts (mapped block (items_end loops (d + 1) brace no_items)) Any Any _ (peek-cons (t.Punct p.OpenBrace) ts (λ e. omega arith) here) sum (some_block loops (d + 1))
-      (λ inner deep. outcome-block limit reads (d + 1) inner deep within (ih (omega arith)) loops (next ts)))
+      (λ inner deep. outcome-block limit (d + 1) inner deep within (ih (omega arith)) loops (next ts)))
   punct-here c ts here = other-kind ts (t.Punct c) here (λ e. cc) (λ v m k. k)
 
   statement-here : (c : Terminal) (ts : List Terminal) → peek ts ≡ c → Outcome (statement_language loops d) Open Open limit ts (statement_at room within loops c ts)
@@ -253,8 +253,8 @@ module _ (limit : ℕ) (reads : ReadsExpressions limit) (d room : ℕ) (sum : d 
 
 -- ---- as deep as there is room
 
-module _ (limit : ℕ) (reads : ReadsExpressions limit) where
+module _ (limit : ℕ) where
   pub outcome-statement : (room d : ℕ) → d + room ≡ limit → (loops : Bool) (ts : List Terminal) → Outcome (statement_language loops d) Open Open limit ts (read_statement room loops ts)
   unfolding read_statement
-  outcome-statement zero d sum loops ts = statement-here limit reads d zero sum nothing_within (λ pos. absurd (omega arith)) loops (peek ts) ts refl
-  outcome-statement (suc n) d sum loops ts = statement-here limit reads d (suc n) sum (read_statement n) (λ pos loops ts. outcome-statement n (d + 1) (omega arith) loops ts) loops (peek ts) ts refl
+  outcome-statement zero d sum loops ts = statement-here limit d zero sum nothing_within (λ pos. absurd (omega arith)) loops (peek ts) ts refl
+  outcome-statement (suc n) d sum loops ts = statement-here limit d (suc n) sum (read_statement n) (λ pos loops ts. outcome-statement n (d + 1) (omega arith) loops ts) loops (peek ts) ts refl
