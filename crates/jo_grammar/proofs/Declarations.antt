@@ -1,19 +1,19 @@
 -- Declarations are read as the grammar spells them.
-use Rattle.std.proofs.Common.{◌≡◌, ◌⊎◌, inl, inr, Bool, true, false, zero, suc, ℕ, ◌+◌, ◌≤◌, ◌<◌, List, [], ◌∷◌, ◌++◌, length, Option, None, Some, Ok, Err, refl, sym, ◌∙◌, ap, subst, append_assoc, arith}
+use Rattle.std.proofs.Common.{◌≡◌, ◌⊎◌, inl, inr, Bool, true, false, zero, suc, ℕ, ◌+◌, ◌≤◌, ◌<◌, List, [], ◌∷◌, ◌++◌, length, Option, None, Some, refl, sym, ◌∙◌, ap, subst, append_assoc, arith}
 use Rattle.jo_lex.specs.declared.punct.Punct.TheVariants as p
 use Rattle.jo_tree.specs.declared.terminal.Terminal.{Terminal}
 use Rattle.jo_tree.specs.declared.terminal.Terminal.TheVariants as t
 use Rattle.jo_tree.specs.declared.word.Ident.{Ident}
 use Rattle.jo_tree.specs.Trees.{Tree, Binding}
-use Rattle.jo_grammar.specs.Expressions.{Mark, mark, plain, Fits, spelling}
+use Rattle.jo_grammar.specs.Expressions.{Mark, mark, plain, spelling}
 use Rattle.jo_grammar.specs.Statements.{FitOptional, FitBindings, initial, binding, more_bindings, bindings}
-use Rattle.jo_grammar.specs.Refusals.{Language, terms, unexpected}
-use Rattle.jo_grammar.specs.Read.{and_then, peek, next, rank, read}
+use Rattle.jo_grammar.specs.Refusals.{Language, terms}
+use Rattle.jo_grammar.specs.Read.{peek, next, rank, read}
 use Rattle.jo_grammar.specs.ReadStatements.{ident_of, ident, initial_at, binding_at, bindings_from, let_after}
-use Rattle.jo_grammar.proofs.Outcome.{Outcome, bind, outcome-bind, Any, nothing, outcome-pure, one, outcome-same, mapped, outcome-map, join, outcome-sees, first-of, opened-with, a_token, outcome-take}
-use Rattle.jo_grammar.proofs.Levels.{at, Above, some_tree, outcome-below, outcome-inner, not-longer}
+use Rattle.jo_grammar.proofs.Outcome.{Outcome, bind, outcome-bind, Any, nothing, outcome-pure, one, outcome-same, mapped, outcome-map, join, outcome-sees, opened-with, a_token, outcome-take}
+use Rattle.jo_grammar.proofs.Levels.{at, Above, some_tree, outcome-inner}
 use Rattle.jo_grammar.proofs.Exact.{outcome-read}
-use Rattle.jo_grammar.proofs.Separated.{elements, elements_end, some_elements, outcome-element, outcome-no-element, outcome-elements}
+use Rattle.jo_grammar.proofs.Separated.{elements, elements_end, outcome-element, outcome-no-element, outcome-elements}
 
 -- ---- words
 

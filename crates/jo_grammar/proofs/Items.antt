@@ -1,17 +1,17 @@
 -- The items of a block or of a script are read as the grammar spells them.
-use Rattle.std.proofs.Common.{◌≡◌, ◌≢◌, ◌⊎◌, inl, inr, Bool, true, false, zero, suc, ℕ, ◌+◌, ◌≤◌, ◌<◌, List, [], ◌∷◌, ◌++◌, length, Ok, Err, refl, sym, ◌∙◌, ap, subst, append_assoc, arith, length-append}
+use Rattle.std.proofs.Common.{◌≡◌, ◌≢◌, ◌⊎◌, inl, inr, Bool, true, false, zero, suc, ℕ, ◌+◌, ◌≤◌, List, [], ◌∷◌, ◌++◌, length, Ok, refl, sym, ◌∙◌, ap, subst, append_assoc, arith, length-append}
 use Rattle.jo_lex.specs.declared.punct.Punct.TheVariants as p
 use Rattle.jo_tree.specs.declared.keyword.Keyword.TheVariants as kw
 use Rattle.jo_tree.specs.declared.terminal.Terminal.{Terminal}
 use Rattle.jo_tree.specs.declared.terminal.Terminal.TheVariants as t
-use Rattle.jo_tree.specs.Trees.{Binding, Statement, empty, Items, no_items, declare, perform}
+use Rattle.jo_tree.specs.Trees.{Statement, Items, no_items, declare, perform}
 use Rattle.jo_grammar.specs.Expressions.{Mark, mark, word}
 use Rattle.jo_grammar.specs.Statements.{FitBindings, Closed, FitStatement, FitItems, bindings, declaration, statement, items}
-use Rattle.jo_grammar.specs.Refusals.{Language, terms, unexpected}
-use Rattle.jo_grammar.specs.Read.{Reader, and_then, peek, next}
-use Rattle.jo_grammar.specs.ReadStatements.{let_after, Item, a_declaration, a_statement, with_item, item_at, block_from}
-use Rattle.jo_grammar.proofs.Outcome.{Stops, Outcome, bind, outcome-bind, Any, nothing, outcome-pure, one, outcome-fail, outcome-if, mapped, outcome-map, join, terms-split, outcome-sees, first-of, plain-after}
-use Rattle.jo_grammar.proofs.First.{begins_statement, statement-begins, statement_language}
+use Rattle.jo_grammar.specs.Refusals.{Language, terms}
+use Rattle.jo_grammar.specs.Read.{Reader, peek, next}
+use Rattle.jo_grammar.specs.ReadStatements.{Item, a_declaration, a_statement, with_item, item_at, block_from}
+use Rattle.jo_grammar.proofs.Outcome.{Stops, Outcome, bind, outcome-bind, Any, nothing, outcome-pure, one, outcome-fail, mapped, outcome-map, join, terms-split, outcome-sees, plain-after}
+use Rattle.jo_grammar.proofs.First.{begins_statement, statement-begins, statement_language, not-statement}
 use Rattle.jo_grammar.proofs.Declarations.{a_let, some_let, outcome-let}
 
 -- an `else` follows only a closed statement
@@ -58,9 +58,6 @@ begins-long (a ∷ m) h = omega arith
 pub item-long : (loops : Bool) (d : ℕ) (x : Item) (m : List Mark) → item_language loops d x m → 1 ≤ length (terms m)
 item-long loops d x m k = begins-long m (item-begins loops d x m [] k)
 
-pub some_item : (loops : Bool) (d : ℕ) → (x : Item) × (m : List Mark) × item_language loops d x m
-some_item loops d = (a_statement empty, mark p.Semicolon ∷ [], (tt, refl))
-
 abbrev let_item : ℕ → Language Item
 let_item d = bind (one (t.Keyword kw.Let) 0) (λ _. mapped a_declaration (a_let true d))
 
@@ -73,15 +70,10 @@ let-to loops d x m (u, y, z, l, (bs, k, same), w) = (subst (λ v. FitItem loops 
 statement-to : (loops : Bool) (d : ℕ) (x : Item) (m : List Mark) → statement_item loops d x m → item_language loops d x m
 statement-to loops d x m (s, k, same) = (subst (λ v. FitItem loops v) (sym same) k.0, k.1 ∙ ap (λ v. item_word d v) (sym same))
 
-no-let : (loops : Bool) (d : ℕ) (s : Statement) (m : List Mark) (r : List Terminal) → statement_language loops d s m → peek (terms m ++ r) ≡ t.Keyword kw.Let → ⊥
-no-let loops d s m r k h =
-    let f : begins_statement (peek (terms m ++ r)) ≡ true = ap (λ v. begins_statement (peek (terms v ++ r))) k.1 ∙ statement-begins loops d s r k.0 in
-    let q : true ≡ false = sym f ∙ ap begins_statement h in cc
-
 item-split : (loops : Bool) (d : ℕ) (x : Item) (m : List Mark) (r : List Terminal) → item_language loops d x m
     → ((peek (terms m ++ r) ≡ t.Keyword kw.Let) × let_item d x m) ⊎ ((peek (terms m ++ r) ≡ t.Keyword kw.Let → ⊥) × statement_item loops d x m)
 item-split loops d (a_declaration bs) m r k = inl (ap (λ z. peek (terms z ++ r)) k.1, (tt, word kw.Let ∷ [], bindings d bs ++ mark p.Semicolon ∷ [], refl, (bs, (k.0, refl), refl), k.1))
-item-split loops d (a_statement s) m r k = inr (λ h. no-let loops d s m r k h, (s, k, refl))
+item-split loops d (a_statement s) m r k = inr (λ h. not-statement (t.Keyword kw.Let) refl loops d s m r k h, (s, k, refl))
 
 -- ---- items
 

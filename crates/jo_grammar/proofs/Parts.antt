@@ -1,22 +1,22 @@
 -- The parts of statements are read as the grammar spells them.
-use Rattle.std.proofs.Common.{◌≡◌, ◌≢◌, ◌⊎◌, inl, inr, Bool, true, false, zero, suc, ℕ, ◌+◌, ◌≤◌, ◌<◌, List, [], ◌∷◌, ◌++◌, length, Option, None, Some, Ok, Err, refl, sym, ◌∙◌, ap, subst, append_assoc, arith}
+use Rattle.std.proofs.Common.{◌≡◌, ◌≢◌, ◌⊎◌, inl, inr, Bool, true, false, zero, suc, ℕ, ◌+◌, ◌≤◌, ◌<◌, List, [], ◌∷◌, ◌++◌, length, Option, None, Some, Ok, refl, sym, ◌∙◌, ap, subst, append_assoc, arith}
 use Rattle.jo_lex.specs.declared.punct.Punct.{Punct}
 use Rattle.jo_lex.specs.declared.punct.Punct.TheVariants as p
 use Rattle.jo_tree.specs.declared.keyword.Keyword.TheVariants as kw
 use Rattle.jo_tree.specs.declared.terminal.Terminal.{Terminal}
 use Rattle.jo_tree.specs.declared.terminal.Terminal.TheVariants as t
-use Rattle.jo_tree.specs.Trees.{Tree, Binding, Head, declares, begins}
+use Rattle.jo_tree.specs.Trees.{Tree, Head, declares, begins}
 use Rattle.jo_grammar.specs.Expressions.{Mark, mark, word, Fits, spelling}
-use Rattle.jo_grammar.specs.Statements.{FitOptional, FitAll, FitBindings, FitHead, optional, bindings, head, more_arguments, arguments, bracketed}
-use Rattle.jo_grammar.specs.Refusals.{Language, terms, unexpected}
-use Rattle.jo_grammar.specs.Read.{and_then, peek, next, punct_rank, rank, read}
-use Rattle.jo_grammar.specs.ReadStatements.{in_brackets_at, optional_ended, let_after, head_at, arguments_from, arguments_after}
-use Rattle.jo_grammar.proofs.Outcome.{Outcome, bind, outcome-bind, Any, nothing, outcome-pure, one, outcome-same, mapped, outcome-map, join, terms-split, outcome-sees, first-of, plain-after, outcome-enter}
+use Rattle.jo_grammar.specs.Statements.{FitOptional, FitAll, FitHead, optional, bindings, head, more_arguments, arguments, bracketed}
+use Rattle.jo_grammar.specs.Refusals.{Language, terms}
+use Rattle.jo_grammar.specs.Read.{peek, next, punct_rank, rank, read}
+use Rattle.jo_grammar.specs.ReadStatements.{in_brackets_at, optional_ended, head_at, arguments_from, arguments_after}
+use Rattle.jo_grammar.proofs.Outcome.{Outcome, bind, Any, nothing, outcome-pure, one, outcome-same, mapped, outcome-map, join, terms-split, outcome-sees, plain-after, outcome-enter}
 use Rattle.jo_grammar.proofs.Levels.{at, Above, some_tree, outcome-below, closed_by, outcome-closed}
 use Rattle.jo_grammar.proofs.Exact.{outcome-read}
 use Rattle.jo_grammar.proofs.Bracketed.{an_ended, some_ended, outcome-ended}
 use Rattle.jo_grammar.proofs.First.{begins_tree, not-first}
-use Rattle.jo_grammar.proofs.Separated.{ends-list, elements, elements_end, some_elements, outcome-element, outcome-no-element, outcome-elements}
+use Rattle.jo_grammar.proofs.Separated.{elements, elements_end, outcome-element, outcome-no-element, outcome-elements}
 use Rattle.jo_grammar.proofs.Declarations.{a_let, some_let, outcome-let}
 
 -- ---- an expression in round brackets, where d constructs are open

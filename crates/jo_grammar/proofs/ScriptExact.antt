@@ -1,20 +1,19 @@
 -- The whole of the tokens of a script is answered exactly.
-use Rattle.std.proofs.Common.{◌≡◌, ◌≢◌, inl, inr, true, false, zero, suc, ℕ, ◌+◌, ◌≤◌, ◌<◌, List, [], ◌∷◌, ◌++◌, length, Ok, Err, refl, sym, ◌∙◌, ap, subst, arith, length-append}
+use Rattle.std.proofs.Common.{◌≡◌, ◌≢◌, inl, inr, false, zero, suc, ℕ, ◌+◌, ◌≤◌, ◌<◌, List, [], ◌∷◌, ◌++◌, length, Ok, Err, refl, sym, ◌∙◌, ap, subst, arith, length-append}
 use Rattle.jo_tree.specs.declared.keyword.Keyword.TheVariants as kw
 use Rattle.jo_tree.specs.declared.terminal.Terminal.{Terminal}
 use Rattle.jo_tree.specs.declared.terminal.Terminal.TheVariants as t
 use Rattle.jo_tree.specs.Trees.{Items, no_items}
 use Rattle.jo_grammar.specs.Expressions.{Mark}
 use Rattle.jo_grammar.specs.Statements.{FitItems, items, IsScript}
-use Rattle.jo_grammar.specs.Refusals.{Language, terms, Within, IsAccepted, Fault, unexpected, too_deep, IsRefused}
+use Rattle.jo_grammar.specs.Refusals.{Language, terms, Within, IsAccepted, Fault, IsRefused}
 use Rattle.jo_grammar.specs.Read.{Reading, peek}
 use Rattle.jo_grammar.specs.ReadStatements.{Item, with_item, item_at, read_statement, Answer, item_then, script_from, whole_script}
 use Rattle.jo_grammar.proofs.Outcome.{Outcome}
 use Rattle.jo_grammar.proofs.Levels.{nil-right}
-use Rattle.jo_grammar.proofs.Exact.{outcome-read}
 use Rattle.jo_grammar.proofs.Accepted.{list-end, Answers}
 use Rattle.jo_grammar.proofs.Exclusive.{answer-once, answer-kept}
-use Rattle.jo_grammar.proofs.Items.{OpenItem, begins_item, item_language, item-long, items_both, items_both-none, items_end, an_item, item-to, items-split, item-not-first, some_items, open-item, outcome-item}
+use Rattle.jo_grammar.proofs.Items.{OpenItem, begins_item, item_language, item-long, items_both-none, items_end, an_item, item-to, items-split, item-not-first, some_items, open-item, outcome-item}
 use Rattle.jo_grammar.proofs.Sequence.{answers-same, answers-then, answers-failed}
 use Rattle.jo_grammar.proofs.StatementsExact.{outcome-statement}
 

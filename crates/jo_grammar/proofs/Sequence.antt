@@ -1,9 +1,9 @@
 -- What is answered for a whole text in two parts, of which the first is read exactly.
-use Rattle.std.proofs.Common.{◌≡◌, ◌≢◌, ℕ, ◌<◌, List, [], ◌∷◌, ◌++◌, Result, Ok, Err, refl, sym, ◌∙◌, ap, subst, append_assoc}
+use Rattle.std.proofs.Common.{◌≡◌, ℕ, List, [], ◌∷◌, ◌++◌, Result, Ok, Err, refl, sym, ◌∙◌, ap, subst, append_assoc}
 use Rattle.jo_tree.specs.declared.terminal.Terminal.{Terminal}
 use Rattle.jo_grammar.specs.Expressions.{Mark}
-use Rattle.jo_grammar.specs.Refusals.{Language, terms, Within, Spells, BeginsWithin, Never, OpensTooMany, EachOpensTooMany, IsAccepted, Fault, unexpected, too_deep, IsRefused}
-use Rattle.jo_grammar.specs.Read.{Reading, peek}
+use Rattle.jo_grammar.specs.Refusals.{Language, terms, BeginsWithin, Never, OpensTooMany, EachOpensTooMany, Fault, unexpected, too_deep, IsRefused}
+use Rattle.jo_grammar.specs.Read.{peek}
 use Rattle.jo_grammar.proofs.Outcome.{terms-append, Within-append, cancel, Stops, Whole, Stuck, Deep, Failing, bind}
 use Rattle.jo_grammar.proofs.Accepted.{list-end, Answers}
 

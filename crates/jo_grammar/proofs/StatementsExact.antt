@@ -1,5 +1,5 @@
 -- Statements are read as the grammar spells them.
-use Rattle.std.proofs.Common.{◌≡◌, ◌≢◌, ◌⊎◌, inl, inr, Bool, true, false, zero, suc, ℕ, ◌+◌, ◌≤◌, ◌<◌, List, [], ◌∷◌, ◌++◌, length, Option, None, Ok, Err, refl, sym, ◌∙◌, ap, subst, arith}
+use Rattle.std.proofs.Common.{◌≡◌, ◌≢◌, inl, inr, Bool, true, false, zero, suc, ℕ, ◌+◌, ◌<◌, List, [], ◌∷◌, ◌++◌, length, Option, Ok, refl, sym, ◌∙◌, ap, subst, arith}
 use Rattle.jo_lex.specs.declared.punct.Punct.{Punct}
 use Rattle.jo_lex.specs.declared.punct.Punct.TheVariants as p
 use Rattle.jo_tree.specs.declared.keyword.Keyword.{Keyword}
@@ -9,17 +9,17 @@ use Rattle.jo_tree.specs.declared.terminal.Terminal.TheVariants as t
 use Rattle.jo_tree.specs.Trees.{Tree, Head, Statement, empty, block, when, either, while, for, break, continue, print, print_names, run, no_items}
 use Rattle.jo_grammar.specs.Expressions.{Mark, mark}
 use Rattle.jo_grammar.specs.Statements.{Closed}
-use Rattle.jo_grammar.specs.Refusals.{Language, terms, unexpected}
-use Rattle.jo_grammar.specs.Read.{Reading, Reader, and_then, peek, next, code, sees, expect, open_at, read}
-use Rattle.jo_grammar.specs.ReadStatements.{Within, in_brackets_at, optional_ended, head_at, arguments_after, run_at, print_after, print_names_after, leave_at, else_after, if_after, while_after, for_after, block_from, block_after, keyword_statement, punct_statement, statement_at, nothing_within, read_statement}
-use Rattle.jo_grammar.proofs.Outcome.{Stops, Outcome, bind, outcome-bind, outcome-choose, Any, nothing, outcome-pure, one, outcome-fail, outcome-if, mapped, outcome-map, sees-true, sees-cons, sees-false, peek-cons, first-of, some-after, outcome-expect, opened-with, plain-after, outcome-enter}
+use Rattle.jo_grammar.specs.Refusals.{Language, terms}
+use Rattle.jo_grammar.specs.Read.{Reading, and_then, peek, next, sees, expect, read}
+use Rattle.jo_grammar.specs.ReadStatements.{Within, in_brackets_at, optional_ended, head_at, arguments_after, run_at, print_after, print_names_after, leave_at, else_after, if_after, while_after, for_after, block_after, keyword_statement, punct_statement, statement_at, nothing_within, read_statement}
+use Rattle.jo_grammar.proofs.Outcome.{Outcome, bind, outcome-bind, outcome-choose, Any, nothing, outcome-pure, one, outcome-fail, outcome-if, mapped, outcome-map, sees-true, sees-cons, sees-false, peek-cons, first-of, some-after, outcome-expect, opened-with, plain-after, outcome-enter}
 use Rattle.jo_grammar.proofs.Levels.{outcome-closed}
 use Rattle.jo_grammar.proofs.Exact.{outcome-read}
 use Rattle.jo_grammar.proofs.First.{statement_language}
 use Rattle.jo_grammar.proofs.Parts.{in_brackets, some_brackets, an_optional, some_optional, a_head, some_head, all_arguments, some_arguments, outcome-brackets, outcome-optional, outcome-head, outcome-arguments}
 use Rattle.jo_grammar.proofs.Items.{Open, items_end, some_items, brace, outcome-items}
 use Rattle.jo_grammar.proofs.Headed.{outcome-headed}
-use Rattle.jo_grammar.proofs.StatementKinds.{an_empty, a_block, semicolon, a_leave, print_arguments, print_parts, a_print, names_parts, a_print_names, else_part, else_rest, then_part, if_parts, an_if, while_parts, a_while, for_body, for_step, for_condition, for_head, for_parts, a_for, a_run, a_run_flat, kind, kind-at, empty-to, block-to, break-to, continue-to, print-to, names-to, if-to, while-to, for-to, run-flat, flat-run, run-to}
+use Rattle.jo_grammar.proofs.StatementKinds.{an_empty, a_block, semicolon, a_leave, print_arguments, print_parts, a_print, names_parts, a_print_names, else_part, else_rest, then_part, if_parts, while_parts, for_body, for_step, for_condition, for_head, for_parts, a_run, a_run_flat, kind, kind-at, empty-to, block-to, break-to, continue-to, print-to, names-to, if-to, while-to, for-to, run-flat, flat-run, run-to}
 
 -- ---- examples
 
