@@ -1,15 +1,14 @@
 -- The token that a tree begins with, and the bracket that it may begin with.
-use Rattle.std.proofs.Common.{refl, ap, ◌∙◌, arith}
+use Rattle.std.proofs.Common.{refl, ap, ◌∙◌}
 use Rattle.std.proofs.lemmas.List.{append_assoc}
-use Rattle.std.specs.Prelude.{◌≡◌, ℕ, zero, suc, ◌+◌, ◌≤◌, List, [], ◌∷◌, ◌++◌, replicate}
+use Rattle.std.specs.Prelude.{◌≡◌, ℕ, ◌+◌, List, [], ◌∷◌, ◌++◌}
 use Rattle.jo_lex.specs.declared.punct.Punct.TheVariants as p
-use Rattle.jo_tree.specs.declared.keyword.Keyword.TheVariants as kw
 use Rattle.jo_tree.specs.declared.operator.UnaryOperator.TheVariants as un
 use Rattle.jo_tree.specs.declared.terminal.Terminal.{Terminal}
 use Rattle.jo_tree.specs.declared.terminal.Terminal.TheVariants as t
 use Rattle.jo_tree.specs.Trees.{Tree, number, literal, constant, variable, group, object, cas, member, unary, delete, chain, choose, assign}
-use Rattle.jo_grammar.specs.Expressions.{Mark, mark, spelling, accesses, links, props, comma_at_end, first}
-use Rattle.jo_grammar.specs.Operators.{unary_token, assign_token}
+use Rattle.jo_grammar.specs.Expressions.{Mark, mark, spelling, accesses, links, first}
+use Rattle.jo_grammar.specs.Operators.{assign_token}
 
 -- the tokens begin with this one
 abbrev pub IsLedBy : Terminal → List Mark → Type 0

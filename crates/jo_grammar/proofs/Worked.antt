@@ -1,6 +1,6 @@
 -- Worked cases of the grammar: which trees some texts have, what each token counts, and which trees no text has.
 use Rattle.std.proofs.Common.{refl, sym, true≢false, arith}
-use Rattle.std.specs.Prelude.{◌≡◌, ◌≢◌, ℕ, zero, suc, ◌+◌, ◌≤◌, pos, Bool, true, false, List, [], ◌∷◌, ◌++◌, Option, None, Some, replicate}
+use Rattle.std.specs.Prelude.{◌≡◌, ℕ, zero, suc, ◌+◌, ◌≤◌, pos, true, false, List, [], ◌∷◌, ◌++◌, None, Some, replicate}
 use Rattle.jo_lex.specs.declared.punct.Punct.{Punct}
 use Rattle.jo_lex.specs.declared.punct.Punct.TheVariants as p
 use Rattle.jo_tree.specs.declared.keyword.Keyword.{Keyword}
@@ -8,20 +8,19 @@ use Rattle.jo_tree.specs.declared.keyword.Keyword.TheVariants as kw
 use Rattle.jo_tree.specs.declared.operator.AssignOperator.TheVariants as set
 use Rattle.jo_tree.specs.declared.operator.BinaryOperator.TheVariants as bin
 use Rattle.jo_tree.specs.declared.operator.UnaryOperator.TheVariants as un
-use Rattle.jo_tree.specs.declared.terminal.Terminal.{Terminal}
 use Rattle.jo_tree.specs.declared.terminal.Terminal.TheVariants as t
 use Rattle.jo_tree.specs.declared.word.Ident.{Ident}
 use Rattle.jo_tree.specs.declared.word.Name.TheVariants as name
 use Rattle.jo_tree.specs.declared.word.PropKey.TheVariants as key
-use Rattle.jo_tree.specs.Trees.{Tree, number, literal, constant, variable, group, object, cas, member, unary, delete, chain, choose, assign, Props, no_props, prop, Accesses, no_accesses, field, index, Links, no_links, link, Head, declares, begins, Statement, empty, block, when, either, while, for, break, continue, print, print_names, run, Items, no_items, declare, perform}
+use Rattle.jo_tree.specs.Trees.{Tree, number, variable, group, object, cas, member, unary, delete, chain, choose, assign, no_props, prop, Accesses, no_accesses, field, index, no_links, link, declares, begins, Statement, empty, block, when, either, while, for, break, continue, print, run, Items, no_items, declare, perform}
 use Rattle.jo_grammar.specs.Expressions.{Mark, plain, mark, word, Fits, IsExpression, spelling}
 use Rattle.jo_grammar.specs.Statements.{FitStatement, FitItems, FitHead, IsScript, statement}
-use Rattle.jo_grammar.specs.Refusals.{terms, Within, OpensTooMany, IsAccepted}
+use Rattle.jo_grammar.specs.Refusals.{terms, Within, OpensTooMany}
 
 -- The words of the cases.
 
 -- the word with a number
-abbrev ident : ℕ → Ident
+abbrev pub ident : ℕ → Ident
 ident n = record { text = record { 0 = n }; place = n; is_proto = false }
 
 -- `__proto__`
@@ -29,7 +28,7 @@ abbrev proto : Ident
 proto = record { text = record { 0 = 9 }; place = 9; is_proto = true }
 
 -- five variables
-abbrev a : Tree
+abbrev pub a : Tree
 a = variable (ident 0)
 
 abbrev b : Tree
@@ -45,7 +44,7 @@ abbrev e : Tree
 e = variable (ident 4)
 
 -- the word with a number, as a token
-abbrev word_ : ℕ → Mark
+abbrev pub word_ : ℕ → Mark
 word_ n = plain (t.Ident (ident n))
 
 -- a token that makes so many constructs open
@@ -57,7 +56,7 @@ abbrev opening_word : Keyword → ℕ → Mark
 opening_word w n = (t.Keyword w, n)
 
 -- tokens that open nothing
-abbrev round : Mark
+abbrev pub round : Mark
 round = mark p.CloseParen
 
 abbrev square : Mark
@@ -66,7 +65,7 @@ square = mark p.CloseBracket
 abbrev brace : Mark
 brace = mark p.CloseBrace
 
-abbrev semicolon : Mark
+abbrev pub semicolon : Mark
 semicolon = mark p.Semicolon
 
 abbrev colon : Mark
@@ -88,7 +87,7 @@ abbrev a_in_b : Tree
 a_in_b = chain 6 a (link bin.In b no_links)
 
 -- a script of one statement
-abbrev alone : Statement → Items
+abbrev pub alone : Statement → Items
 alone s = perform s no_items
 
 -- Levels of operators.
@@ -413,12 +412,12 @@ an_argument_may_begin_with_a_brace = (((refl, (tt, tt)), tt), refl)
 -- The limit of open constructs.
 
 -- a variable in so many brackets
-abbrev deep : ℕ → Tree
+abbrev pub deep : ℕ → Tree
 deep zero = a
 deep (suc n) = group (deep n)
 
 -- so many brackets, of which each counts one more
-abbrev opened : ℕ → ℕ → List Mark
+abbrev pub opened : ℕ → ℕ → List Mark
 opened from zero = []
 opened from (suc n) = opening p.OpenParen (from + 1) ∷ opened (from + 1) n
 
@@ -443,7 +442,7 @@ deep_within limit from zero h = (omega arith, tt)
 deep_within limit from (suc n) h =
     (omega (arith, h), within_both limit (spelling (from + 1) (deep n)) (round ∷ []) (deep_within limit (from + 1) n (omega (arith, h))) (omega arith, tt))
 
-opened_within : (limit from n : ℕ) → from + n ≤ limit → Within limit (opened from n)
+pub opened_within : (limit from n : ℕ) → from + n ≤ limit → Within limit (opened from n)
 opened_within limit from zero h = tt
 opened_within limit from (suc n) h = (omega (arith, h), opened_within limit (from + 1) n (omega (arith, h)))
 
@@ -457,7 +456,7 @@ conditions_within limit from zero h = tt
 conditions_within limit from (suc n) h =
     (omega (arith, h), (omega (arith, h), (omega arith, (omega arith, conditions_within limit (from + 1) n (omega (arith, h))))))
 
-deep_fits : (n : ℕ) → Fits true 1 (deep n)
+pub deep_fits : (n : ℕ) → Fits true 1 (deep n)
 deep_fits zero = tt
 deep_fits (suc n) = deep_fits n
 
@@ -482,14 +481,13 @@ sixty_three_conditions_are_within_the_limit = ifs_within 64 0 63 (omega arith)
 -- so is the 64th `if`, and its bracket is too many
 pub the_bracket_of_the_64th_if_is_too_many :
     OpensTooMany IsScript 64 (terms (conditions 0 63) ++ t.Keyword kw.If ∷ []) (t.Punct p.OpenParen ∷ [])
-the_bracket_of_the_64th_if_is_too_many =
-    (
-      alone (ifs 64),
-      conditions 0 63 ++ opening_word kw.If 64 ∷ [],
-      65,
-      plain (t.Number (pos 1)) ∷ round ∷ semicolon ∷ [],
-      ((ifs_fit 64, tt), refl),
-      refl,
-      within_both 64 (conditions 0 63) (opening_word kw.If 64 ∷ []) (conditions_within 64 0 63 (omega arith)) (omega arith, tt),
-      omega arith,
-    )
+the_bracket_of_the_64th_if_is_too_many = (
+  alone (ifs 64),
+  conditions 0 63 ++ opening_word kw.If 64 ∷ [],
+  65,
+  plain (t.Number (pos 1)) ∷ round ∷ semicolon ∷ [],
+  ((ifs_fit 64, tt), refl),
+  refl,
+  within_both 64 (conditions 0 63) (opening_word kw.If 64 ∷ []) (conditions_within 64 0 63 (omega arith)) (omega arith, tt),
+  omega arith,
+)
