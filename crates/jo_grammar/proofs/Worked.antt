@@ -12,7 +12,7 @@ use Rattle.jo_tree.specs.declared.terminal.Terminal.TheVariants as t
 use Rattle.jo_tree.specs.declared.word.Ident.{Ident}
 use Rattle.jo_tree.specs.declared.word.Name.TheVariants as name
 use Rattle.jo_tree.specs.declared.word.PropKey.TheVariants as key
-use Rattle.jo_tree.specs.Trees.{Tree, number, variable, group, object, cas, member, unary, delete, chain, choose, assign, no_props, prop, Accesses, no_accesses, field, index, no_links, link, declares, begins, Statement, empty, block, when, either, while, for, break, continue, print, run, Items, no_items, declare, perform}
+use Rattle.jo_tree.specs.Trees.{Tree, number, constant, variable, group, object, cas, member, unary, delete, chain, choose, assign, no_props, prop, Accesses, no_accesses, field, index, no_links, link, declares, begins, Statement, empty, block, when, either, while, for, break, continue, print, print_names, run, Items, no_items, declare, perform}
 use Rattle.jo_grammar.specs.Expressions.{Mark, plain, mark, word, Fits, IsExpression, spelling}
 use Rattle.jo_grammar.specs.Statements.{FitStatement, FitItems, FitHead, IsScript, statement}
 use Rattle.jo_grammar.specs.Refusals.{terms, Within, OpensTooMany}
@@ -104,6 +104,12 @@ pub times_binds_more_tightly_than_plus :
     (word_ 0 ∷ opening p.Plus 1 ∷ word_ 1 ∷ opening p.Star 2 ∷ word_ 2 ∷ [])
 times_binds_more_tightly_than_plus = ((omega arith, tt, (refl, λ h. refl, (omega arith, tt, (refl, λ h. refl, tt, refl)), refl)), refl)
 
+-- `a === b < c` joins `a` with `b < c`
+pub less_binds_more_tightly_than_same :
+    IsExpression true 0 (chain 5 a (link bin.Same (chain 6 b (link bin.Less c no_links)) no_links))
+    (word_ 0 ∷ opening p.Same 1 ∷ word_ 1 ∷ opening p.Less 2 ∷ word_ 2 ∷ [])
+less_binds_more_tightly_than_same = ((omega arith, tt, (refl, λ h. refl, (omega arith, tt, (refl, λ h. refl, tt, refl)), refl)), refl)
+
 -- in `a * b - c` the product has ended where the `-` stands
 pub a_product_ends_before_a_minus :
     IsExpression true 0 (chain 7 (chain 8 a (link bin.Times b no_links)) (link bin.Minus c no_links))
@@ -125,6 +131,10 @@ no_chain_begins_with_one_of_its_level h = let tight : 8 ≤ 7 = h.1.0 in omega (
 pub no_right_operand_is_a_chain_of_the_level :
     Fits true 1 (chain 7 a (link bin.Minus (chain 7 b (link bin.Minus c no_links)) no_links)) → ⊥
 no_right_operand_is_a_chain_of_the_level h = let tight : 8 ≤ 7 = h.2.2.0 in omega (arith, tight)
+
+-- no chain has one operand alone
+pub no_chain_is_empty : Fits true 1 (chain 7 a no_links) → ⊥
+no_chain_is_empty h = true≢false h.2
 
 -- no chain has an operator of another level
 pub no_chain_mixes_levels : Fits true 1 (chain 7 a (link bin.Times b no_links)) → ⊥
@@ -168,6 +178,12 @@ choices_group_to_the_right = ((omega arith, tt, tt, (omega arith, tt, tt, tt)), 
 pub no_choice_is_a_condition : Fits true 1 (choose (choose a b c) d e) → ⊥
 no_choice_is_a_condition h = let tight : 3 ≤ 2 = h.1.0 in omega (arith, tight)
 
+-- in `a ? (b) : (c)` the `?` is open in both operands
+pub a_choice_is_open_in_both_operands :
+    IsExpression true 0 (choose a (group b) (group c))
+    (word_ 0 ∷ opening p.Question 1 ∷ opening p.OpenParen 2 ∷ word_ 1 ∷ round ∷ colon ∷ opening p.OpenParen 2 ∷ word_ 2 ∷ round ∷ [])
+a_choice_is_open_in_both_operands = ((omega arith, tt, tt, tt), refl)
+
 -- `a ? b : c = d` has an assignment for its last operand
 pub an_assignment_stands_last_in_a_choice :
     IsExpression true 0 (choose a b (assign set.Set c d))
@@ -192,6 +208,12 @@ pub delete_takes_all_accesses :
     (opening_word kw.Delete 1 ∷ word_ 0 ∷ mark p.Dot ∷ word_ 1 ∷ mark p.Dot ∷ word_ 2 ∷ [])
 delete_takes_all_accesses = ((omega arith, tt, (omega arith, tt, refl)), refl)
 
+-- in `delete a[b = c]` all three are open at the `=`
+pub a_delete_is_open_in_its_operand :
+    IsExpression true 0 (delete (member a (index (assign set.Set b c) no_accesses)))
+    (opening_word kw.Delete 1 ∷ word_ 0 ∷ opening p.OpenBracket 2 ∷ word_ 1 ∷ opening p.Assign 3 ∷ word_ 2 ∷ square ∷ [])
+a_delete_is_open_in_its_operand = ((omega arith, tt, (omega arith, tt, ((omega arith, tt, tt, tt), refl))), refl)
+
 -- `delete (a.b)` has no tree
 pub no_delete_takes_a_group : Fits true 1 (delete (group a_dot_b)) → ⊥
 no_delete_takes_a_group h = h.1
@@ -210,6 +232,10 @@ brackets_are_open_until_they_are_closed = ((omega arith, tt, (tt, (tt, refl))), 
 pub no_property_is_a_base : Fits true 1 (member a_dot_b (dot 2 no_accesses)) → ⊥
 no_property_is_a_base h = let tight : 11 ≤ 10 = h.1.0 in omega (arith, tight)
 
+-- nor is there one without an access
+pub no_property_lacks_an_access : Fits true 1 (member a no_accesses) → ⊥
+no_property_lacks_an_access h = true≢false h.2
+
 -- `a.if` names a property by a reserved word
 pub a_reserved_word_names_a_property :
     IsExpression true 0 (member a (field (name.Keyword kw.If) no_accesses)) (word_ 0 ∷ mark p.Dot ∷ word kw.If ∷ [])
@@ -221,6 +247,13 @@ pub a_swap_has_properties :
     (word kw.Cas ∷ opening p.OpenParen 1 ∷ word_ 0 ∷ comma ∷ word_ 1 ∷ comma ∷ word_ 2 ∷ comma ∷ word_ 3 ∷ round ∷ mark p.Dot ∷ word_ 4 ∷ [])
 a_swap_has_properties = ((omega arith, (tt, tt, tt, tt), refl), refl)
 
+-- in `cas((shared), -a, (b), c + d)` the bracket is open in all four
+pub a_swap_is_open_in_its_operands :
+    IsExpression true 0 (cas (group (constant kw.Shared)) (unary un.Minus a) (group b) (chain 7 c (link bin.Plus d no_links)))
+    (word kw.Cas ∷ opening p.OpenParen 1 ∷ opening p.OpenParen 2 ∷ word kw.Shared ∷ round ∷ comma ∷ opening p.Minus 2 ∷ word_ 0 ∷ comma ∷ opening p.OpenParen 2 ∷ word_ 1
+    ∷ round ∷ comma ∷ word_ 2 ∷ opening p.Plus 2 ∷ word_ 3 ∷ round ∷ [])
+a_swap_is_open_in_its_operands = ((refl, (omega arith, tt), tt, (omega arith, tt, (refl, λ h. refl, tt, refl))), refl)
+
 -- Object literals.
 
 -- `{b: a,}` ends with a comma
@@ -228,6 +261,12 @@ pub a_comma_may_stand_at_the_end :
     IsExpression true 0 (object (prop (key.Name (name.Ident (ident 1))) a no_props) true)
     (opening p.OpenBrace 1 ∷ word_ 1 ∷ colon ∷ word_ 0 ∷ comma ∷ brace ∷ [])
 a_comma_may_stand_at_the_end = ((refl, tt, tt), refl)
+
+-- in `{b: -a, c: !d}` the brace is open in both values
+pub an_object_is_open_in_its_values :
+    IsExpression true 0 (object (prop (key.Name (name.Ident (ident 1))) (unary un.Minus a) (prop (key.Name (name.Ident (ident 2))) (unary un.Not d) no_props)) false)
+    (opening p.OpenBrace 1 ∷ word_ 1 ∷ colon ∷ opening p.Minus 2 ∷ word_ 0 ∷ comma ∷ word_ 2 ∷ colon ∷ opening p.Bang 2 ∷ word_ 3 ∷ brace ∷ [])
+an_object_is_open_in_its_values = ((refl, (omega arith, tt), (refl, (omega arith, tt), tt)), refl)
 
 -- `{,}` has no tree
 pub no_comma_stands_alone : Fits true 1 (object no_props true) → ⊥
@@ -287,11 +326,15 @@ an_else_goes_into_a_loop = (((tt, (tt, (tt, tt, tt, tt))), tt), refl)
 pub no_else_passes_a_loop : FitStatement false (either a (while b (when c empty)) empty) → ⊥
 no_else_passes_a_loop h = h.2
 
+-- nor to one before another loop
+pub no_else_passes_a_for : FitStatement false (either a (for (begins None) None None (when c empty)) empty) → ⊥
+no_else_passes_a_for h = h.2
+
 -- nor past the `else` of another `if`
 pub no_else_passes_an_else : FitStatement false (either a (either b empty (when c empty)) empty) → ⊥
 no_else_passes_an_else h = h.2
 
--- in `if (a) { if (b) ; } else ;` it belongs to the outer one
+-- in `if (a) { if (b) ; } else ;` the `else` belongs to the outer one
 pub braces_keep_an_else_outside :
     IsScript (alone (either a (block (alone (when b empty))) empty))
     (opening_word kw.If 1 ∷ opening p.OpenParen 2 ∷ word_ 0 ∷ round ∷ opening p.OpenBrace 2 ∷ opening_word kw.If 3 ∷ opening p.OpenParen 4 ∷ word_ 1 ∷ round ∷ semicolon ∷ brace
@@ -318,9 +361,19 @@ pub a_declaration_opens_a_construct_at_its_sign :
     (word kw.Let ∷ word_ 0 ∷ opening p.Assign 1 ∷ opening p.OpenParen 2 ∷ word_ 1 ∷ round ∷ comma ∷ word_ 2 ∷ semicolon ∷ [])
 a_declaration_opens_a_construct_at_its_sign = (((tt, (tt, refl)), tt), refl)
 
+-- `let c = a in b;` has an `in` outside brackets
+pub a_declaration_may_have_an_in :
+    IsScript (declare ((ident 2, Some a_in_b) ∷ []) no_items)
+    (word kw.Let ∷ word_ 2 ∷ opening p.Assign 1 ∷ word_ 0 ∷ opening_word kw.In 2 ∷ word_ 1 ∷ semicolon ∷ [])
+a_declaration_may_have_an_in = ((((omega arith, tt, (refl, λ h. refl, tt, refl)), refl), tt), refl)
+
 -- `let;` has no tree
 pub no_declaration_is_empty : FitItems false (declare [] no_items) → ⊥
 no_declaration_is_empty h = true≢false h.0
+
+-- nor has `for (let; ; ) ;`
+pub no_head_declares_nothing : FitHead (declares []) → ⊥
+no_head_declares_nothing h = true≢false h
 
 -- `for (let a = b; a < c; a += d) ;` has all three parts
 pub a_loop_has_a_head_of_three_parts :
@@ -362,7 +415,20 @@ pub an_in_may_stand_in_the_other_parts :
 an_in_may_stand_in_the_other_parts =
     let free : Fits true 1 a_in_b = (omega arith, tt, (refl, λ h. refl, tt, refl)) in ((omega arith, (refl, free, tt), (tt, refl)), free, free, tt)
 
+-- so may it in all four operands of a swap in the first part
+pub an_in_may_stand_in_a_swap_there : FitHead (begins (Some (cas a_in_b a_in_b a_in_b a_in_b)))
+an_in_may_stand_in_a_swap_there =
+    let free : Fits true 1 a_in_b = (omega arith, tt, (refl, λ h. refl, tt, refl)) in (free, free, free, free)
+
 -- Loops and what leaves them.
+
+-- in `while (!a) if (!b) printNames((c)); else if (!d) ;` a statement and its bracket are open in the condition, and the statement alone behind it
+pub a_condition_is_two_constructs_deep :
+    IsScript (alone (while (unary un.Not a) (either (unary un.Not b) (print_names (group c)) (when (unary un.Not d) empty))))
+    (opening_word kw.While 1 ∷ opening p.OpenParen 2 ∷ opening p.Bang 3 ∷ word_ 0 ∷ round ∷ opening_word kw.If 2 ∷ opening p.OpenParen 3 ∷ opening p.Bang 4 ∷ word_ 1 ∷ round
+    ∷ word kw.PrintNames ∷ opening p.OpenParen 3 ∷ opening p.OpenParen 4 ∷ word_ 2 ∷ round ∷ round ∷ semicolon
+    ∷ word kw.Else ∷ opening_word kw.If 3 ∷ opening p.OpenParen 4 ∷ opening p.Bang 5 ∷ word_ 3 ∷ round ∷ semicolon ∷ [])
+a_condition_is_two_constructs_deep = ((((omega arith, tt), ((omega arith, tt), tt, tt, ((omega arith, tt), tt))), tt), refl)
 
 -- `while (a) { break; }` leaves the loop out of a block
 pub a_block_in_a_loop_may_have_a_break :
