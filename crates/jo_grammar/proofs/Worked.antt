@@ -508,6 +508,16 @@ deep_within limit from zero h = (omega arith, tt)
 deep_within limit from (suc n) h =
     (omega (arith, h), within_both limit (spelling (from + 1) (deep n)) (round ∷ []) (deep_within limit (from + 1) n (omega (arith, h))) (omega arith, tt))
 
+-- what keeps within the limit does so up to each of its tokens
+within_front : (limit : ℕ) (m n : List Mark) → Within limit (m ++ n) → Within limit m
+within_front limit [] n h = tt
+within_front limit (x ∷ m) n h = (h.0, within_front limit m n h.1)
+
+deep_past : (limit from n : ℕ) → from ≤ limit → limit + 1 ≤ from + n → Within limit (spelling from (deep n)) → ⊥
+deep_past limit from zero low high h = omega (arith, low, high)
+deep_past limit from (suc n) low high h =
+    deep_past limit (from + 1) n h.0 (omega (arith, high)) (within_front limit (spelling (from + 1) (deep n)) (round ∷ []) h.1)
+
 pub opened_within : (limit from n : ℕ) → from + n ≤ limit → Within limit (opened from n)
 opened_within limit from zero h = tt
 opened_within limit from (suc n) h = (omega (arith, h), opened_within limit (from + 1) n (omega (arith, h)))
@@ -534,7 +544,11 @@ ifs_fit (suc n) = (tt, ifs_fit n)
 pub sixty_four_brackets_are_within_the_limit : Within 64 (spelling 0 (deep 64))
 sixty_four_brackets_are_within_the_limit = deep_within 64 0 64 (omega arith)
 
--- the 65th is not
+-- 65 are not
+pub sixty_five_brackets_are_past_the_limit : Within 64 (spelling 0 (deep 65)) → ⊥
+sixty_five_brackets_are_past_the_limit = deep_past 64 0 65 (omega arith) (omega arith)
+
+-- and the 65th of them is the one too many
 pub the_65th_bracket_is_too_many :
     OpensTooMany (IsExpression true 0) 64 (replicate 64 (t.Punct p.OpenParen)) (t.Punct p.OpenParen ∷ [])
 the_65th_bracket_is_too_many =
