@@ -1,2 +1,3 @@
 pub mod Words
-pub mod Worked
+pub mod WorkedExpressions
+pub mod WorkedStatements

@@ -6,3 +6,5 @@ pub mod Printed
 pub mod Expressions
 pub mod Statements
 pub mod Scripts
+pub mod Play
+pub mod Histories

@@ -1,0 +1,33 @@
+-- The history of a set of scripts.
+use Rattle.std.specs.Prelude.{◌≡◌, ℕ, ◌+◌, List, [], length, slice_get, Some}
+use Rattle.jo_value.specs.Texts.{Table}
+use Rattle.jo_tree.specs.Trees.{Items}
+use Rattle.jo_model.specs.declared.call.Outcome.{Outcome}
+use Rattle.jo_model.specs.Heaps.{heap_at_start}
+use Rattle.jo_model.specs.History.{History, IsLegal, calls_of, replies_of}
+use Rattle.jo_meaning.specs.Runs.{Run, Ended}
+use Rattle.jo_meaning.specs.Play.{Played, play}
+use Rattle.jo_meaning.specs.Scripts.{interaction_of, does}
+
+-- what script number t does in a history, where its pass is t and it has so many turns
+abbrev pub run_in : History → ℕ → Items → Table → ℕ → Run
+run_in w t script texts turns = does script texts turns (replies_of t w)
+
+-- the calls of a script stand in a history once each, in its order, and the script has come to this outcome there
+pub record IsRunIn (w : History) (t : ℕ) (script : Items) (texts : Table) (turns : ℕ) (outcome : Outcome) : Type 0 where
+  pub calls : calls_of t w ≡ (run_in w t script texts turns).calls
+  pub ended : (run_in w t script texts turns).stand ≡ Ended outcome
+
+-- A history of these scripts, of which number t, from 1, runs in pass t with so many turns: it is legal, pass 0, which sets up, has no
+-- call in it, and the calls of each script stand in it once each, in its order, up to the script's end. The outcomes are
+-- those of the scripts, in order.
+pub record IsHistoryOf (scripts : List Items) (texts : Table) (turns : ℕ) (outcomes : List Outcome) (w : History) : Type 0 where
+  pub legal : IsLegal (length scripts + 1) w
+  pub setup : calls_of 0 w ≡ []
+  pub as_many : length outcomes ≡ length scripts
+  pub each : (k : ℕ) (script : Items) → slice_get scripts k ≡ Some script
+      → (outcome : Outcome) × (slice_get outcomes k ≡ Some outcome) × IsRunIn w (k + 1) script texts turns outcome
+
+-- the run of a script alone, as pass 1 beside pass 0, from the heap at the start
+abbrev pub played_alone : Items → Table → ℕ → Played
+played_alone script texts turns = play 1 (interaction_of script texts turns) (heap_at_start 2)
