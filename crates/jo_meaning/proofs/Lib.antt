@@ -1,3 +1,4 @@
 pub mod Words
 pub mod WorkedExpressions
 pub mod WorkedStatements
+pub mod Alone
