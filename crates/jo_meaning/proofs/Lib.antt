@@ -2,3 +2,4 @@ pub mod Words
 pub mod WorkedExpressions
 pub mod WorkedStatements
 pub mod Alone
+pub mod Agree

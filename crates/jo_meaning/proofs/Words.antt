@@ -45,26 +45,26 @@ abbrev pub z : Tree
 z = variable (ident 2)
 
 -- a number, a text by its number, and a word of the language, each as an expression
-abbrev pub num : ℕ → Tree
-num n = number (pos n)
+abbrev pub natural : ℕ → Tree
+natural n = number (pos n)
 
 abbrev pub text : ℕ → Tree
 text n = literal (record { text = record { 0 = n }; is_proto = false })
 
-abbrev pub nul : Tree
-nul = constant kw.Null
+abbrev pub null_word : Tree
+null_word = constant kw.Null
 
-abbrev pub undef : Tree
-undef = constant kw.Undefined
+abbrev pub undefined_word : Tree
+undefined_word = constant kw.Undefined
 
-abbrev pub the_true : Tree
-the_true = constant kw.True
+abbrev pub true_word : Tree
+true_word = constant kw.True
 
-abbrev pub the_false : Tree
-the_false = constant kw.False
+abbrev pub false_word : Tree
+false_word = constant kw.False
 
-abbrev pub the_shared : Tree
-the_shared = constant kw.Shared
+abbrev pub shared_word : Tree
+shared_word = constant kw.Shared
 
 -- a property by its name, and by a key
 abbrev pub dot : Tree → ℕ → Tree
@@ -74,14 +74,14 @@ abbrev pub at : Tree → Tree → Tree
 at e key = member e (index key no_accesses)
 
 -- `shared.x`, `shared.y` and `shared.z`
-abbrev pub sx : Tree
-sx = dot the_shared 0
+abbrev pub shared_x : Tree
+shared_x = dot shared_word 0
 
-abbrev pub sy : Tree
-sy = dot the_shared 1
+abbrev pub shared_y : Tree
+shared_y = dot shared_word 1
 
-abbrev pub sz : Tree
-sz = dot the_shared 2
+abbrev pub shared_z : Tree
+shared_z = dot shared_word 2
 
 abbrev pub minus : Tree → Tree
 minus e = unary unary_op.Minus e
@@ -127,8 +127,8 @@ with n e items = declare (binding n e ∷ []) items
 abbrev pub name : ℕ → Key
 name n = Name (record { 0 = n })
 
-abbrev pub int : ℕ → Value
-int n = value.Int (pos n)
+abbrev pub integer : ℕ → Value
+integer n = value.Int (pos n)
 
 abbrev pub get : Key → Call
 get key = call.Get shared key
@@ -137,7 +137,7 @@ abbrev pub put : Key → Value → Call
 put key v = call.Put shared key v
 
 abbrev pub found : ℕ → Reply
-found n = reply.Found (int n)
+found n = reply.Found (integer n)
 
 -- ---- runs
 

@@ -15,39 +15,39 @@ use Rattle.jo_model.specs.declared.call.Call.TheVariants as call
 use Rattle.jo_model.specs.declared.call.Outcome.TheVariants as outcome
 use Rattle.jo_model.specs.declared.call.Reply.TheVariants as reply
 use Rattle.jo_model.specs.Meaning.{shared}
-use Rattle.jo_meaning.proofs.Words.{ident, x, y, num, text, nul, undef, the_true, the_false, the_shared, dot, at, sx, sy, sz, minus, two, three, sum, set, add, show, all, with, name, int, get, put, found, after, printing, running, ended, done, fails, waits}
+use Rattle.jo_meaning.proofs.Words.{ident, x, y, natural, text, null_word, undefined_word, true_word, false_word, shared_word, dot, at, shared_x, shared_y, shared_z, minus, two, three, sum, set, add, show, all, with, name, integer, get, put, found, after, printing, running, ended, done, fails, waits}
 
 -- ---- operands and operators
 
 -- shared.x + shared.y
 pub operands_are_evaluated_from_left_to_right :
-    printing (sum sx sy) (found 3 ∷ found 4 ∷ []) ≡ done (get (name 0) ∷ get (name 1) ∷ []) (codes "7\n")
+    printing (sum shared_x shared_y) (found 3 ∷ found 4 ∷ []) ≡ done (get (name 0) ∷ get (name 1) ∷ []) (codes "7\n")
 unfolding digits
 operands_are_evaluated_from_left_to_right = refl
 
 -- the same before the second reply
 pub a_run_stands_at_the_call_that_waits :
-    printing (sum sx sy) (found 3 ∷ []) ≡ waits (get (name 1)) (get (name 0) ∷ []) []
+    printing (sum shared_x shared_y) (found 3 ∷ []) ≡ waits (get (name 1)) (get (name 0) ∷ []) []
 a_run_stands_at_the_call_that_waits = refl
 
 -- null + shared.x
 pub both_operands_are_evaluated_before_a_type_fault :
-    running (sum nul sx) (found 1 ∷ []) ≡ fails outcome.TypeFault (get (name 0) ∷ [])
+    running (sum null_word shared_x) (found 1 ∷ []) ≡ fails outcome.TypeFault (get (name 0) ∷ [])
 both_operands_are_evaluated_before_a_type_fault = refl
 
 -- null + 1 + shared.x
 pub a_fault_comes_before_the_next_operand :
-    running (three nul op.Plus (num 1) op.Plus sx) [] ≡ fails outcome.TypeFault []
+    running (three null_word op.Plus (natural 1) op.Plus shared_x) [] ≡ fails outcome.TypeFault []
 a_fault_comes_before_the_next_operand = refl
 
 -- 10 - 3 - 2
 pub operators_of_one_level_go_from_left_to_right :
-    printing (three (num 10) op.Minus (num 3) op.Minus (num 2)) [] ≡ done [] (codes "5\n")
+    printing (three (natural 10) op.Minus (natural 3) op.Minus (natural 2)) [] ≡ done [] (codes "5\n")
 unfolding digits
 operators_of_one_level_go_from_left_to_right = refl
 
 -- null % 0
-pub a_type_fault_comes_before_not_safe : running (two nul op.Remainder (num 0)) [] ≡ fails outcome.TypeFault []
+pub a_type_fault_comes_before_not_safe : running (two null_word op.Remainder (natural 0)) [] ≡ fails outcome.TypeFault []
 a_type_fault_comes_before_not_safe = refl
 
 -- "ab" < "ab"
@@ -59,58 +59,58 @@ pub texts_have_no_sum : running (sum (text 11) (text 11)) [] ≡ fails outcome.T
 texts_have_no_sum = refl
 
 -- -null
-pub a_negation_of_no_number_is_a_type_fault : running (minus nul) [] ≡ fails outcome.TypeFault []
+pub a_negation_of_no_number_is_a_type_fault : running (minus null_word) [] ≡ fails outcome.TypeFault []
 a_negation_of_no_number_is_a_type_fault = refl
 
 -- 1 < 1, 1 <= 1, 2 > 1, -2 >= -1
-pub comparisons_compare_numbers :
-    after (all (show (two (num 1) op.Less (num 1)) ∷ show (two (num 1) op.LessEqual (num 1)) ∷ show (two (num 2) op.Greater (num 1))
-      ∷ show (two (minus (num 2)) op.GreaterEqual (minus (num 1))) ∷ [])) []
+pub numbers_are_compared :
+    after (all (show (two (natural 1) op.Less (natural 1)) ∷ show (two (natural 1) op.LessEqual (natural 1)) ∷ show (two (natural 2) op.Greater (natural 1))
+      ∷ show (two (minus (natural 2)) op.GreaterEqual (minus (natural 1))) ∷ [])) []
     ≡ done [] (codes "false\ntrue\ntrue\nfalse\n")
-comparisons_compare_numbers = refl
+numbers_are_compared = refl
 
 -- ---- numbers
 
 -- 9007199254740991 + 0
-pub the_largest_number_is_safe : printing (sum (num 9007199254740991) (num 0)) [] ≡ done [] (codes "9007199254740991\n")
+pub the_largest_number_is_safe : printing (sum (natural 9007199254740991) (natural 0)) [] ≡ done [] (codes "9007199254740991\n")
 unfolding digits
 the_largest_number_is_safe = refl
 
 -- 9007199254740991 + 1
-pub a_sum_above_it_is_not_safe : running (sum (num 9007199254740991) (num 1)) [] ≡ fails outcome.NotSafe []
+pub a_sum_above_it_is_not_safe : running (sum (natural 9007199254740991) (natural 1)) [] ≡ fails outcome.NotSafe []
 a_sum_above_it_is_not_safe = refl
 
 -- -9007199254740991 - 0
 pub the_least_number_is_safe :
-    printing (two (minus (num 9007199254740991)) op.Minus (num 0)) [] ≡ done [] (codes "-9007199254740991\n")
+    printing (two (minus (natural 9007199254740991)) op.Minus (natural 0)) [] ≡ done [] (codes "-9007199254740991\n")
 unfolding digits
 the_least_number_is_safe = refl
 
 -- -9007199254740991 - 1
-pub a_difference_below_it_is_not_safe : running (two (minus (num 9007199254740991)) op.Minus (num 1)) [] ≡ fails outcome.NotSafe []
+pub a_difference_below_it_is_not_safe : running (two (minus (natural 9007199254740991)) op.Minus (natural 1)) [] ≡ fails outcome.NotSafe []
 a_difference_below_it_is_not_safe = refl
 
 -- 94906267 * 94906267
-pub a_product_above_it_is_not_safe : running (two (num 94906267) op.Times (num 94906267)) [] ≡ fails outcome.NotSafe []
+pub a_product_above_it_is_not_safe : running (two (natural 94906267) op.Times (natural 94906267)) [] ≡ fails outcome.NotSafe []
 a_product_above_it_is_not_safe = refl
 
 -- -0, 0 * -1 and -7 % 7
 pub minus_zero_is_zero :
-    after (all (show (minus (num 0)) ∷ show (two (num 0) op.Times (minus (num 1))) ∷ show (two (minus (num 7)) op.Remainder (num 7)) ∷ [])) []
+    after (all (show (minus (natural 0)) ∷ show (two (natural 0) op.Times (minus (natural 1))) ∷ show (two (minus (natural 7)) op.Remainder (natural 7)) ∷ [])) []
     ≡ done [] (codes "0\n0\n0\n")
 unfolding digits
 minus_zero_is_zero = refl
 
 -- -7 % 3, 7 % -3 and 0 % 5
 pub a_remainder_has_the_sign_of_the_dividend :
-    after (all (show (two (minus (num 7)) op.Remainder (num 3)) ∷ show (two (num 7) op.Remainder (minus (num 3)))
-      ∷ show (two (num 0) op.Remainder (num 5)) ∷ [])) []
+    after (all (show (two (minus (natural 7)) op.Remainder (natural 3)) ∷ show (two (natural 7) op.Remainder (minus (natural 3)))
+      ∷ show (two (natural 0) op.Remainder (natural 5)) ∷ [])) []
     ≡ done [] (codes "-1\n1\n0\n")
 unfolding digits
 a_remainder_has_the_sign_of_the_dividend = refl
 
 -- 5 % 0
-pub a_remainder_by_zero_is_not_safe : running (two (num 5) op.Remainder (num 0)) [] ≡ fails outcome.NotSafe []
+pub a_remainder_by_zero_is_not_safe : running (two (natural 5) op.Remainder (natural 0)) [] ≡ fails outcome.NotSafe []
 a_remainder_by_zero_is_not_safe = refl
 
 -- ---- truth and equality
@@ -119,47 +119,47 @@ abbrev not_of : Tree → Tree
 not_of e = unary unary_op.Not e
 
 -- !undefined, !null, !false, !0 and !""
-pub five_values_are_falsy :
-    after (all (show (not_of undef) ∷ show (not_of nul) ∷ show (not_of the_false) ∷ show (not_of (num 0)) ∷ show (not_of (text 3)) ∷ [])) []
+pub undefined_null_false_zero_and_the_empty_text_are_falsy :
+    after (all (show (not_of undefined_word) ∷ show (not_of null_word) ∷ show (not_of false_word) ∷ show (not_of (natural 0)) ∷ show (not_of (text 3)) ∷ [])) []
     ≡ done [] (codes "true\ntrue\ntrue\ntrue\ntrue\n")
-five_values_are_falsy = refl
+undefined_null_false_zero_and_the_empty_text_are_falsy = refl
 
 -- !true, !-1, !"0" and !shared
-pub others_are_not :
-    after (all (show (not_of the_true) ∷ show (not_of (minus (num 1))) ∷ show (not_of (text 4)) ∷ show (not_of the_shared) ∷ [])) []
+pub other_values_are_not_falsy :
+    after (all (show (not_of true_word) ∷ show (not_of (minus (natural 1))) ∷ show (not_of (text 4)) ∷ show (not_of shared_word) ∷ [])) []
     ≡ done [] (codes "false\nfalse\nfalse\nfalse\n")
-others_are_not = refl
+other_values_are_not_falsy = refl
 
 -- null && shared.x
-pub and_gives_a_falsy_left_operand : printing (two nul op.And sx) [] ≡ done [] (codes "null\n")
+pub and_gives_a_falsy_left_operand : printing (two null_word op.And shared_x) [] ≡ done [] (codes "null\n")
 and_gives_a_falsy_left_operand = refl
 
 -- 2 && shared.x
-pub and_gives_the_right_operand_otherwise : printing (two (num 2) op.And sx) (found 0 ∷ []) ≡ done (get (name 0) ∷ []) (codes "0\n")
+pub and_gives_the_right_operand_otherwise : printing (two (natural 2) op.And shared_x) (found 0 ∷ []) ≡ done (get (name 0) ∷ []) (codes "0\n")
 unfolding digits
 and_gives_the_right_operand_otherwise = refl
 
 -- 2 || shared.x
-pub or_gives_a_left_operand_that_is_not_falsy : printing (two (num 2) op.Or sx) [] ≡ done [] (codes "2\n")
+pub or_gives_a_left_operand_that_is_not_falsy : printing (two (natural 2) op.Or shared_x) [] ≡ done [] (codes "2\n")
 unfolding digits
 or_gives_a_left_operand_that_is_not_falsy = refl
 
 -- 0 || shared.x || shared.y
 pub or_gives_the_right_operand_otherwise :
-    printing (three (num 0) op.Or sx op.Or sy) (found 7 ∷ []) ≡ done (get (name 0) ∷ []) (codes "7\n")
+    printing (three (natural 0) op.Or shared_x op.Or shared_y) (found 7 ∷ []) ≡ done (get (name 0) ∷ []) (codes "7\n")
 unfolding digits
 or_gives_the_right_operand_otherwise = refl
 
 -- 0 ? shared.x : shared.y, and 1 ? shared.x : shared.y
 pub a_choice_evaluates_one_of_two :
-    after (all (show (choose (num 0) sx sy) ∷ show (choose (num 1) sx sy) ∷ [])) (found 5 ∷ found 6 ∷ [])
+    after (all (show (choose (natural 0) shared_x shared_y) ∷ show (choose (natural 1) shared_x shared_y) ∷ [])) (found 5 ∷ found 6 ∷ [])
     ≡ done (get (name 1) ∷ get (name 0) ∷ []) (codes "5\n6\n")
 unfolding digits
 a_choice_evaluates_one_of_two = refl
 
 -- 0 === "0", undefined === null, shared === shared and "ab" !== "ab"
 pub equality_is_strict_and_takes_any_values :
-    after (all (show (two (num 0) op.Same (text 4)) ∷ show (two undef op.Same nul) ∷ show (two the_shared op.Same the_shared)
+    after (all (show (two (natural 0) op.Same (text 4)) ∷ show (two undefined_word op.Same null_word) ∷ show (two shared_word op.Same shared_word)
       ∷ show (two (text 11) op.NotSame (text 11)) ∷ [])) []
     ≡ done [] (codes "false\nfalse\ntrue\nfalse\n")
 equality_is_strict_and_takes_any_values = refl
@@ -167,29 +167,39 @@ equality_is_strict_and_takes_any_values = refl
 -- ---- keys
 
 abbrev read_at : Tree → Tree
-read_at key = at the_shared key
+read_at key = at shared_word key
 
 -- shared[0] and shared[1023]
 pub a_number_up_to_1023_is_an_index :
-    after (all (show (read_at (num 0)) ∷ show (read_at (num 1023)) ∷ [])) (found 1 ∷ found 2 ∷ [])
+    after (all (show (read_at (natural 0)) ∷ show (read_at (natural 1023)) ∷ [])) (found 1 ∷ found 2 ∷ [])
     ≡ done (get (Index 0) ∷ get (Index 1023) ∷ []) (codes "1\n2\n")
 unfolding digits
 a_number_up_to_1023_is_an_index = refl
 
 -- shared[1024]
-pub a_number_above_1023_is_outside : running (read_at (num 1024)) [] ≡ fails outcome.KeyOutside []
+pub a_number_above_1023_is_outside : running (read_at (natural 1024)) [] ≡ fails outcome.KeyOutside []
 a_number_above_1023_is_outside = refl
 
 -- shared[-1]
-pub a_negative_number_is_outside : running (read_at (minus (num 1))) [] ≡ fails outcome.KeyOutside []
+pub a_negative_number_is_outside : running (read_at (minus (natural 1))) [] ≡ fails outcome.KeyOutside []
 a_negative_number_is_outside = refl
 
--- shared[true] and shared[undefined]
-pub no_other_value_is_a_key : running (read_at the_true) [] ≡ running (read_at undef) []
-no_other_value_is_a_key = refl
+-- shared[true]
+pub a_truth_value_is_no_key : running (read_at true_word) [] ≡ fails outcome.KeyOutside []
+a_truth_value_is_no_key = refl
 
-pub a_truth_value_is_outside : running (read_at the_true) [] ≡ fails outcome.KeyOutside []
-a_truth_value_is_outside = refl
+-- shared[undefined]
+pub undefined_is_no_key : running (read_at undefined_word) [] ≡ fails outcome.KeyOutside []
+undefined_is_no_key = refl
+
+-- shared[shared]
+pub an_object_is_no_key : running (read_at shared_word) [] ≡ fails outcome.KeyOutside []
+an_object_is_no_key = refl
+
+-- shared[-0]
+pub minus_zero_is_index_zero : printing (read_at (minus (natural 0))) (found 1 ∷ []) ≡ done (get (Index 0) ∷ []) (codes "1\n")
+unfolding digits
+minus_zero_is_index_zero = refl
 
 -- shared["0"] and shared["1023"]
 pub a_text_of_an_index_is_that_index :
@@ -215,7 +225,7 @@ other_texts_are_names = refl
 
 -- shared.if
 pub a_reserved_word_names_a_property_by_its_text :
-    printing (member the_shared (field (word.Keyword kw.If) no_accesses)) (found 1 ∷ []) ≡ done (get (name 10) ∷ []) (codes "1\n")
+    printing (member shared_word (field (word.Keyword kw.If) no_accesses)) (found 1 ∷ []) ≡ done (get (name 10) ∷ []) (codes "1\n")
 unfolding digits
 a_reserved_word_names_a_property_by_its_text = refl
 
@@ -224,159 +234,159 @@ pub a_text_that_the_table_lacks_reads_as_empty :
     after (all (show (text 12) ∷ show (not_of (text 12)) ∷ [])) [] ≡ done [] (codes "\ntrue\n")
 a_text_that_the_table_lacks_reads_as_empty = refl
 
-pub as_a_key_it_is_outside : running (read_at (text 12)) [] ≡ fails outcome.KeyOutside []
-as_a_key_it_is_outside = refl
+pub a_text_that_the_table_lacks_is_no_key : running (read_at (text 12)) [] ≡ fails outcome.KeyOutside []
+a_text_that_the_table_lacks_is_no_key = refl
 
-pub so_is_a_word_that_the_table_lacks :
-    running (member the_shared (field (word.Keyword kw.While) no_accesses)) [] ≡ fails outcome.KeyOutside []
-so_is_a_word_that_the_table_lacks = refl
+pub a_word_that_the_table_lacks_is_no_key :
+    running (member shared_word (field (word.Keyword kw.While) no_accesses)) [] ≡ fails outcome.KeyOutside []
+a_word_that_the_table_lacks_is_no_key = refl
 
 -- ---- properties
 
 -- shared.x.y
 pub accesses_go_from_left_to_right :
-    printing (member the_shared (field (word.Ident (ident 0)) (field (word.Ident (ident 1)) no_accesses)))
+    printing (member shared_word (field (word.Ident (ident 0)) (field (word.Ident (ident 1)) no_accesses)))
       (reply.Found (value.Object (record { pass = 1; number = 2 })) ∷ found 4 ∷ [])
     ≡ done (get (name 0) ∷ call.Get (record { pass = 1; number = 2 }) (name 1) ∷ []) (codes "4\n")
 unfolding digits
 accesses_go_from_left_to_right = refl
 
 -- null[shared.x]
-pub the_key_is_evaluated_before_a_type_fault : running (at nul sx) (found 1 ∷ []) ≡ fails outcome.TypeFault (get (name 0) ∷ [])
+pub the_key_is_evaluated_before_a_type_fault : running (at null_word shared_x) (found 1 ∷ []) ≡ fails outcome.TypeFault (get (name 0) ∷ [])
 the_key_is_evaluated_before_a_type_fault = refl
 
 -- null[1024]
-pub a_type_fault_comes_before_key_outside : running (at nul (num 1024)) [] ≡ fails outcome.TypeFault []
+pub a_type_fault_comes_before_key_outside : running (at null_word (natural 1024)) [] ≡ fails outcome.TypeFault []
 a_type_fault_comes_before_key_outside = refl
 
 -- null.x[shared.y]
 pub a_fault_of_the_base_comes_before_the_key :
-    running (member nul (field (word.Ident (ident 0)) (index sy no_accesses))) [] ≡ fails outcome.TypeFault []
+    running (member null_word (field (word.Ident (ident 0)) (index shared_y no_accesses))) [] ≡ fails outcome.TypeFault []
 a_fault_of_the_base_comes_before_the_key = refl
 
 -- {x: shared.y, 7: shared.z}
 pub properties_are_evaluated_and_put_one_after_another :
-    printing (object (prop (prop_key.Name (word.Ident (ident 0))) sy (prop (prop_key.Number (pos 7)) sz no_props)) false)
+    printing (object (prop (prop_key.Name (word.Ident (ident 0))) shared_y (prop (prop_key.Number (pos 7)) shared_z no_props)) false)
       (reply.Made (record { pass = 1; number = 0 }) ∷ found 5 ∷ reply.Done ∷ found 6 ∷ reply.Done ∷ [])
-    ≡ done (call.New ∷ get (name 1) ∷ call.Put (record { pass = 1; number = 0 }) (name 0) (int 5)
-      ∷ get (name 2) ∷ call.Put (record { pass = 1; number = 0 }) (Index 7) (int 6) ∷ []) (codes "#1.0\n")
+    ≡ done (call.New ∷ get (name 1) ∷ call.Put (record { pass = 1; number = 0 }) (name 0) (integer 5)
+      ∷ get (name 2) ∷ call.Put (record { pass = 1; number = 0 }) (Index 7) (integer 6) ∷ []) (codes "#1.0\n")
 unfolding digits
 properties_are_evaluated_and_put_one_after_another = refl
 
 -- {1024: shared.y}
 pub a_bad_key_of_a_literal_comes_after_its_value :
-    running (object (prop (prop_key.Number (pos 1024)) sy no_props) false) (reply.Made (record { pass = 1; number = 0 }) ∷ found 5 ∷ [])
+    running (object (prop (prop_key.Number (pos 1024)) shared_y no_props) false) (reply.Made (record { pass = 1; number = 0 }) ∷ found 5 ∷ [])
     ≡ fails outcome.KeyOutside (call.New ∷ get (name 1) ∷ [])
 a_bad_key_of_a_literal_comes_after_its_value = refl
 
 -- shared[shared.x] = shared.y, as an expression
 pub an_assignment_evaluates_base_key_and_value_and_gives_the_value :
-    printing (set (read_at sx) sy) (found 8 ∷ found 9 ∷ reply.Done ∷ [])
-    ≡ done (get (name 0) ∷ get (name 1) ∷ put (Index 8) (int 9) ∷ []) (codes "9\n")
+    printing (set (read_at shared_x) shared_y) (found 8 ∷ found 9 ∷ reply.Done ∷ [])
+    ≡ done (get (name 0) ∷ get (name 1) ∷ put (Index 8) (integer 9) ∷ []) (codes "9\n")
 unfolding digits
 an_assignment_evaluates_base_key_and_value_and_gives_the_value = refl
 
 -- null.x = shared.y
 pub an_assignment_evaluates_its_right_side_before_a_type_fault :
-    running (set (dot nul 0) sy) (found 1 ∷ []) ≡ fails outcome.TypeFault (get (name 1) ∷ [])
+    running (set (dot null_word 0) shared_y) (found 1 ∷ []) ≡ fails outcome.TypeFault (get (name 1) ∷ [])
 an_assignment_evaluates_its_right_side_before_a_type_fault = refl
 
 -- shared[1024] = shared.y
 pub an_assignment_evaluates_its_right_side_before_key_outside :
-    running (set (read_at (num 1024)) sy) (found 1 ∷ []) ≡ fails outcome.KeyOutside (get (name 1) ∷ [])
+    running (set (read_at (natural 1024)) shared_y) (found 1 ∷ []) ≡ fails outcome.KeyOutside (get (name 1) ∷ [])
 an_assignment_evaluates_its_right_side_before_key_outside = refl
 
 -- null[1024] = 1
-pub an_assignment_has_the_type_fault_first : running (set (at nul (num 1024)) (num 1)) [] ≡ fails outcome.TypeFault []
-an_assignment_has_the_type_fault_first = refl
+pub an_assignment_has_the_type_fault_before_key_outside : running (set (at null_word (natural 1024)) (natural 1)) [] ≡ fails outcome.TypeFault []
+an_assignment_has_the_type_fault_before_key_outside = refl
 
 -- shared.x += shared.y, as an expression
 pub a_compound_assignment_gets_then_evaluates_then_puts :
-    printing (add sx sy) (found 3 ∷ found 4 ∷ reply.Done ∷ []) ≡ done (get (name 0) ∷ get (name 1) ∷ put (name 0) (int 7) ∷ []) (codes "7\n")
+    printing (add shared_x shared_y) (found 3 ∷ found 4 ∷ reply.Done ∷ []) ≡ done (get (name 0) ∷ get (name 1) ∷ put (name 0) (integer 7) ∷ []) (codes "7\n")
 unfolding digits
 a_compound_assignment_gets_then_evaluates_then_puts = refl
 
 -- shared.x -= 5
 pub a_difference_is_assigned_likewise :
-    printing (assign assign_op.Subtract sx (num 5)) (found 3 ∷ reply.Done ∷ [])
+    printing (assign assign_op.Subtract shared_x (natural 5)) (found 3 ∷ reply.Done ∷ [])
     ≡ done (get (name 0) ∷ put (name 0) (value.Int (negsuc 1)) ∷ []) (codes "-2\n")
 unfolding digits
 a_difference_is_assigned_likewise = refl
 
 -- null[shared.x] += shared.y
 pub a_compound_assignment_has_the_type_fault_before_its_right_side :
-    running (add (at nul sx) sy) (found 1 ∷ []) ≡ fails outcome.TypeFault (get (name 0) ∷ [])
+    running (add (at null_word shared_x) shared_y) (found 1 ∷ []) ≡ fails outcome.TypeFault (get (name 0) ∷ [])
 a_compound_assignment_has_the_type_fault_before_its_right_side = refl
 
 -- shared[1024] += shared.y
 pub a_compound_assignment_has_key_outside_before_its_right_side :
-    running (add (read_at (num 1024)) sy) [] ≡ fails outcome.KeyOutside []
+    running (add (read_at (natural 1024)) shared_y) [] ≡ fails outcome.KeyOutside []
 a_compound_assignment_has_key_outside_before_its_right_side = refl
 
 -- shared.x += shared.y, where undefined is found first
 pub a_fault_of_the_sum_comes_after_its_right_side_and_before_the_put :
-    running (add sx sy) (reply.Found value.Undefined ∷ found 4 ∷ []) ≡ fails outcome.TypeFault (get (name 0) ∷ get (name 1) ∷ [])
+    running (add shared_x shared_y) (reply.Found value.Undefined ∷ found 4 ∷ []) ≡ fails outcome.TypeFault (get (name 0) ∷ get (name 1) ∷ [])
 a_fault_of_the_sum_comes_after_its_right_side_and_before_the_put = refl
 
 -- let x = 1; print(x += (x = 5)); print(x);
 pub a_compound_assignment_reads_its_variable_first :
-    after (with 0 (num 1) (all (show (add x (group (set x (num 5)))) ∷ show x ∷ []))) [] ≡ done [] (codes "6\n6\n")
+    after (with 0 (natural 1) (all (show (add x (group (set x (natural 5)))) ∷ show x ∷ []))) [] ≡ done [] (codes "6\n6\n")
 unfolding digits
 a_compound_assignment_reads_its_variable_first = refl
 
 -- let x = 1; shared[x] = (x = 2);
 pub a_key_is_evaluated_before_the_right_side :
-    after (with 0 (num 1) (all (show (set (read_at x) (group (set x (num 2)))) ∷ []))) (reply.Done ∷ []) ≡ done (put (Index 1) (int 2) ∷ []) (codes "2\n")
+    after (with 0 (natural 1) (all (show (set (read_at x) (group (set x (natural 2)))) ∷ []))) (reply.Done ∷ []) ≡ done (put (Index 1) (integer 2) ∷ []) (codes "2\n")
 unfolding digits
 a_key_is_evaluated_before_the_right_side = refl
 
 -- delete shared[shared.x]
 pub a_delete_is_true :
-    printing (delete (read_at sx)) (found 3 ∷ reply.Flag true ∷ []) ≡ done (get (name 0) ∷ call.Delete shared (Index 3) ∷ []) (codes "true\n")
+    printing (delete (read_at shared_x)) (found 3 ∷ reply.Flag true ∷ []) ≡ done (get (name 0) ∷ call.Delete shared (Index 3) ∷ []) (codes "true\n")
 a_delete_is_true = refl
 
 -- delete null[1024]
-pub a_delete_has_the_type_fault_first : running (delete (at nul (num 1024))) [] ≡ fails outcome.TypeFault []
-a_delete_has_the_type_fault_first = refl
+pub a_delete_has_the_type_fault_before_key_outside : running (delete (at null_word (natural 1024))) [] ≡ fails outcome.TypeFault []
+a_delete_has_the_type_fault_before_key_outside = refl
 
 -- delete shared[1024]
-pub a_delete_of_a_bad_key_is_outside : running (delete (read_at (num 1024))) [] ≡ fails outcome.KeyOutside []
+pub a_delete_of_a_bad_key_is_outside : running (delete (read_at (natural 1024))) [] ≡ fails outcome.KeyOutside []
 a_delete_of_a_bad_key_is_outside = refl
 
 -- shared.x in shared
 pub a_test_evaluates_the_key_and_then_the_object :
-    printing (two sx op.In the_shared) (found 5 ∷ reply.Flag false ∷ []) ≡ done (get (name 0) ∷ call.Has shared (Index 5) ∷ []) (codes "false\n")
+    printing (two shared_x op.In shared_word) (found 5 ∷ reply.Flag false ∷ []) ≡ done (get (name 0) ∷ call.Has shared (Index 5) ∷ []) (codes "false\n")
 a_test_evaluates_the_key_and_then_the_object = refl
 
 -- 1024 in shared.x
-pub a_test_has_the_type_fault_first : running (two (num 1024) op.In sx) (found 1 ∷ []) ≡ fails outcome.TypeFault (get (name 0) ∷ [])
-a_test_has_the_type_fault_first = refl
+pub a_test_has_the_type_fault_after_both_sides_and_before_key_outside : running (two (natural 1024) op.In shared_x) (found 1 ∷ []) ≡ fails outcome.TypeFault (get (name 0) ∷ [])
+a_test_has_the_type_fault_after_both_sides_and_before_key_outside = refl
 
 -- 1024 in shared
-pub a_test_of_a_bad_key_is_outside : running (two (num 1024) op.In the_shared) [] ≡ fails outcome.KeyOutside []
+pub a_test_of_a_bad_key_is_outside : running (two (natural 1024) op.In shared_word) [] ≡ fails outcome.KeyOutside []
 a_test_of_a_bad_key_is_outside = refl
 
 -- cas(shared, "ab", shared.x, shared.y)
 pub a_swap_evaluates_its_arguments_and_gives_the_value_found :
-    printing (cas the_shared (text 11) sx sy) (found 1 ∷ found 2 ∷ found 8 ∷ [])
-    ≡ done (get (name 0) ∷ get (name 1) ∷ call.Cas shared (name 11) (int 1) (int 2) ∷ []) (codes "8\n")
+    printing (cas shared_word (text 11) shared_x shared_y) (found 1 ∷ found 2 ∷ found 8 ∷ [])
+    ≡ done (get (name 0) ∷ get (name 1) ∷ call.Cas shared (name 11) (integer 1) (integer 2) ∷ []) (codes "8\n")
 unfolding digits
 a_swap_evaluates_its_arguments_and_gives_the_value_found = refl
 
 -- cas(null, 1024, shared.x, shared.y)
 pub a_swap_has_the_type_fault_after_its_arguments :
-    running (cas nul (num 1024) sx sy) (found 1 ∷ found 2 ∷ []) ≡ fails outcome.TypeFault (get (name 0) ∷ get (name 1) ∷ [])
+    running (cas null_word (natural 1024) shared_x shared_y) (found 1 ∷ found 2 ∷ []) ≡ fails outcome.TypeFault (get (name 0) ∷ get (name 1) ∷ [])
 a_swap_has_the_type_fault_after_its_arguments = refl
 
 -- cas(shared, 1024, shared.x, shared.y)
-pub and_then_key_outside :
-    running (cas the_shared (num 1024) sx sy) (found 1 ∷ found 2 ∷ []) ≡ fails outcome.KeyOutside (get (name 0) ∷ get (name 1) ∷ [])
-and_then_key_outside = refl
+pub a_swap_of_a_bad_key_is_outside_after_its_arguments :
+    running (cas shared_word (natural 1024) shared_x shared_y) (found 1 ∷ found 2 ∷ []) ≡ fails outcome.KeyOutside (get (name 0) ∷ get (name 1) ∷ [])
+a_swap_of_a_bad_key_is_outside_after_its_arguments = refl
 
 -- ---- replies of another kind
 
 -- shared.x, 0 in shared
 pub a_reply_of_another_kind_reads_as_undefined :
-    after (all (show sx ∷ show (two (num 0) op.In the_shared) ∷ [])) (reply.Done ∷ found 1 ∷ [])
+    after (all (show shared_x ∷ show (two (natural 0) op.In shared_word) ∷ [])) (reply.Done ∷ found 1 ∷ [])
     ≡ done (get (name 0) ∷ call.Has shared (Index 0) ∷ []) (codes "undefined\nundefined\n")
 a_reply_of_another_kind_reads_as_undefined = refl
