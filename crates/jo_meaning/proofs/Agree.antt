@@ -19,7 +19,7 @@ use Rattle.jo_model.specs.declared.call.Outcome.TheVariants as outcome
 use Rattle.jo_model.specs.declared.call.Reply.{Reply}
 use Rattle.jo_model.specs.declared.call.Reply.TheVariants as reply
 use Rattle.jo_model.specs.Meaning.{line_of}
-use Rattle.jo_meaning.specs.Runs.{Interaction, Ends, Asks, Takes}
+use Rattle.jo_meaning.specs.Runs.{Interaction, Asks, Takes}
 use Rattle.jo_meaning.specs.State.{State, Next, Scope, ends, unless_fault, unless_refused, asks, made_in, found_in, flag_in, names_in, take_turn, variable_of, value_at, with_value_at}
 use Rattle.jo_meaning.specs.Values.{is_falsy, apply, apply_unary, assigned, object_in}
 use Rattle.jo_meaning.specs.Keys.{key_in, name_value, prop_value}
@@ -130,7 +130,7 @@ module _ (texts : Table) where
         agree_asks call.New n _ _ (λ r. agree_props scope (made_in r) props n _ _ (h (made_in r)))
     agree_expression scope (cas o key old new) n k k' h =
         agree_expression scope o n _ _ (λ o. agree_expression scope key n _ _ (λ key. agree_expression scope old n _ _ (λ old. agree_expression scope new n _ _ (λ new.
-          agree_on o key n _ _ (λ o p. agree_asks (call.Cas o p old new) n _ _ (λ r. h (found_in r)))))))
+        agree_on o key n _ _ (λ o p. agree_asks (call.Cas o p old new) n _ _ (λ r. h (found_in r)))))))
     agree_expression scope (member e accesses) n k k' h =
         agree_expression scope e n _ _ (λ v. agree_accesses scope (plain v) accesses n _ _ (λ r. agree_get r n k k' h))
     agree_expression scope (unary operator e) n k k' h = agree_expression scope e n _ _ (λ v. agree_fault (apply_unary texts operator v) n k k' h)
@@ -223,8 +223,8 @@ module _ (texts : Table) where
       → KeepsOne (loops_for texts scope head c step body)
   agree_for scope head c step body keeps n k k' h =
       agree_starts scope head n _ _ (agree_loops (evaluates_or texts (value.Bool true) scope c) (λ again after. body (steps texts scope step again) after (steps texts scope step again))
-        (agree_or (value.Bool true) scope c)
-        (λ n a a' b b' ha hb. keeps n _ _ _ _ _ _ (agree_steps scope step n a a' ha) hb (agree_steps scope step n a a' ha)) n k k' h)
+      (agree_or (value.Bool true) scope c)
+      (λ n a a' b b' ha hb. keeps n _ _ _ _ _ _ (agree_steps scope step n a a' ha) hb (agree_steps scope step n a a' ha)) n k k' h)
 
   mutual
     pub agree_statement : (scope : Scope) (statement : Statement) → KeepsThree (executes texts scope statement)

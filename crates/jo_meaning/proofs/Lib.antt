@@ -1,5 +1,6 @@
 pub mod Words
 pub mod WorkedExpressions
 pub mod WorkedStatements
+pub mod WorkedRuns
 pub mod Alone
 pub mod Agree

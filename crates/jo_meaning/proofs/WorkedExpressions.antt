@@ -1,6 +1,6 @@
 -- Worked cases of what expressions mean, each computed and named by what it shows.
 use Rattle.std.proofs.Common.{refl}
-use Rattle.std.specs.Prelude.{◌≡◌, ℕ, pos, negsuc, true, false, List, [], ◌∷◌, ◌++◌, codes}
+use Rattle.std.specs.Prelude.{◌≡◌, pos, negsuc, true, false, [], ◌∷◌, codes}
 use Rattle.std.specs.Fmt.{digits}
 use Rattle.jo_value.specs.declared.value.Key.TheVariants.{Index}
 use Rattle.jo_value.specs.declared.value.Value.TheVariants as value
@@ -15,7 +15,7 @@ use Rattle.jo_model.specs.declared.call.Call.TheVariants as call
 use Rattle.jo_model.specs.declared.call.Outcome.TheVariants as outcome
 use Rattle.jo_model.specs.declared.call.Reply.TheVariants as reply
 use Rattle.jo_model.specs.Meaning.{shared}
-use Rattle.jo_meaning.proofs.Words.{ident, x, y, natural, text, null_word, undefined_word, true_word, false_word, shared_word, dot, at, shared_x, shared_y, shared_z, minus, two, three, sum, set, add, show, all, with, name, integer, get, put, found, after, printing, running, ended, done, fails, waits}
+use Rattle.jo_meaning.proofs.Words.{ident, x, natural, text, null_word, undefined_word, true_word, false_word, shared_word, dot, at, shared_x, shared_y, shared_z, minus, two, three, sum, set, add, show, all, with, name, integer, get, put, found, after, printing, running, done, fails, waits}
 
 -- ---- operands and operators
 
@@ -65,7 +65,7 @@ a_negation_of_no_number_is_a_type_fault = refl
 -- 1 < 1, 1 <= 1, 2 > 1, -2 >= -1
 pub numbers_are_compared :
     after (all (show (two (natural 1) op.Less (natural 1)) ∷ show (two (natural 1) op.LessEqual (natural 1)) ∷ show (two (natural 2) op.Greater (natural 1))
-      ∷ show (two (minus (natural 2)) op.GreaterEqual (minus (natural 1))) ∷ [])) []
+    ∷ show (two (minus (natural 2)) op.GreaterEqual (minus (natural 1))) ∷ [])) []
     ≡ done [] (codes "false\ntrue\ntrue\nfalse\n")
 numbers_are_compared = refl
 
@@ -104,7 +104,7 @@ minus_zero_is_zero = refl
 -- -7 % 3, 7 % -3 and 0 % 5
 pub a_remainder_has_the_sign_of_the_dividend :
     after (all (show (two (minus (natural 7)) op.Remainder (natural 3)) ∷ show (two (natural 7) op.Remainder (minus (natural 3)))
-      ∷ show (two (natural 0) op.Remainder (natural 5)) ∷ [])) []
+    ∷ show (two (natural 0) op.Remainder (natural 5)) ∷ [])) []
     ≡ done [] (codes "-1\n1\n0\n")
 unfolding digits
 a_remainder_has_the_sign_of_the_dividend = refl
@@ -160,7 +160,7 @@ a_choice_evaluates_one_of_two = refl
 -- 0 === "0", undefined === null, shared === shared and "ab" !== "ab"
 pub equality_is_strict_and_takes_any_values :
     after (all (show (two (natural 0) op.Same (text 4)) ∷ show (two undefined_word op.Same null_word) ∷ show (two shared_word op.Same shared_word)
-      ∷ show (two (text 11) op.NotSame (text 11)) ∷ [])) []
+    ∷ show (two (text 11) op.NotSame (text 11)) ∷ [])) []
     ≡ done [] (codes "false\nfalse\ntrue\nfalse\n")
 equality_is_strict_and_takes_any_values = refl
 
@@ -246,7 +246,7 @@ a_word_that_the_table_lacks_is_no_key = refl
 -- shared.x.y
 pub accesses_go_from_left_to_right :
     printing (member shared_word (field (word.Ident (ident 0)) (field (word.Ident (ident 1)) no_accesses)))
-      (reply.Found (value.Object (record { pass = 1; number = 2 })) ∷ found 4 ∷ [])
+    (reply.Found (value.Object (record { pass = 1; number = 2 })) ∷ found 4 ∷ [])
     ≡ done (get (name 0) ∷ call.Get (record { pass = 1; number = 2 }) (name 1) ∷ []) (codes "4\n")
 unfolding digits
 accesses_go_from_left_to_right = refl
@@ -267,9 +267,9 @@ a_fault_of_the_base_comes_before_the_key = refl
 -- {x: shared.y, 7: shared.z}
 pub properties_are_evaluated_and_put_one_after_another :
     printing (object (prop (prop_key.Name (word.Ident (ident 0))) shared_y (prop (prop_key.Number (pos 7)) shared_z no_props)) false)
-      (reply.Made (record { pass = 1; number = 0 }) ∷ found 5 ∷ reply.Done ∷ found 6 ∷ reply.Done ∷ [])
+    (reply.Made (record { pass = 1; number = 0 }) ∷ found 5 ∷ reply.Done ∷ found 6 ∷ reply.Done ∷ [])
     ≡ done (call.New ∷ get (name 1) ∷ call.Put (record { pass = 1; number = 0 }) (name 0) (integer 5)
-      ∷ get (name 2) ∷ call.Put (record { pass = 1; number = 0 }) (Index 7) (integer 6) ∷ []) (codes "#1.0\n")
+    ∷ get (name 2) ∷ call.Put (record { pass = 1; number = 0 }) (Index 7) (integer 6) ∷ []) (codes "#1.0\n")
 unfolding digits
 properties_are_evaluated_and_put_one_after_another = refl
 

@@ -1,21 +1,21 @@
 -- Worked cases of what statements and scripts mean, each computed and named by what it shows.
 use Rattle.std.proofs.Common.{refl}
-use Rattle.std.specs.Prelude.{◌≡◌, ℕ, pos, negsuc, true, false, List, [], ◌∷◌, ◌++◌, codes, length, replicate, None, Some}
+use Rattle.std.specs.Prelude.{◌≡◌, ℕ, false, List, [], ◌∷◌, ◌++◌, codes, replicate, None, Some}
 use Rattle.std.specs.Fmt.{digits}
 use Rattle.jo_value.specs.declared.value.Value.TheVariants as value
 use Rattle.jo_tree.specs.declared.operator.BinaryOperator.TheVariants as op
 use Rattle.jo_tree.specs.declared.word.Name.TheVariants as word
 use Rattle.jo_tree.specs.declared.word.PropKey.TheVariants as prop_key
-use Rattle.jo_tree.specs.Trees.{Tree, object, group, no_props, prop, declares, begins, Statement, empty, block, when, either, while, for, break, continue, print, print_names, run, Items, no_items, declare, perform}
+use Rattle.jo_tree.specs.Trees.{object, no_props, prop, declares, begins, Statement, empty, block, when, either, while, for, break, continue, print, print_names, run, Items, no_items, declare, perform}
 use Rattle.jo_model.specs.declared.call.Call.TheVariants as call
 use Rattle.jo_model.specs.declared.call.Outcome.TheVariants as outcome
 use Rattle.jo_model.specs.declared.call.Reply.TheVariants as reply
 use Rattle.jo_model.specs.Meaning.{shared}
-use Rattle.jo_meaning.specs.Runs.{Run, Ends, follow}
+use Rattle.jo_meaning.specs.Runs.{Run, follow}
 use Rattle.jo_meaning.specs.State.{ends}
 use Rattle.jo_meaning.specs.Statements.{executes}
 use Rattle.jo_meaning.specs.Scripts.{does}
-use Rattle.jo_meaning.proofs.Words.{texts, ident, x, y, z, natural, text, null_word, undefined_word, true_word, false_word, shared_word, dot, shared_x, shared_y, shared_z, minus, two, sum, set, add, show, all, binding, bare, with, name, integer, get, put, found, after, ended, done, fails}
+use Rattle.jo_meaning.proofs.Words.{texts, ident, x, y, natural, text, null_word, undefined_word, true_word, false_word, shared_word, dot, shared_x, shared_y, shared_z, minus, two, sum, set, add, show, all, binding, bare, with, name, integer, get, put, found, after, ended, done, fails}
 
 -- ---- blocks and variables
 
@@ -93,7 +93,7 @@ without_a_turn_no_test_is_evaluated = refl
 -- let x = 0; while (true) { x += 1; shared.x = x; }
 pub five_turns_are_five_tests :
     after (with 0 (natural 0) (all (while true_word (braces (run (add x (natural 1)) ∷ run (set shared_x x) ∷ [])) ∷ [])))
-      (reply.Done ∷ reply.Done ∷ reply.Done ∷ reply.Done ∷ reply.Done ∷ [])
+    (reply.Done ∷ reply.Done ∷ reply.Done ∷ reply.Done ∷ reply.Done ∷ [])
     ≡ ended outcome.TurnsSpent (put (name 0) (integer 1) ∷ put (name 0) (integer 2) ∷ put (name 0) (integer 3) ∷ put (name 0) (integer 4) ∷ put (name 0) (integer 5) ∷ []) 5 []
 five_turns_are_five_tests = refl
 
@@ -158,7 +158,7 @@ a_break_leaves_the_innermost_loop = refl
 abbrev odd_numbers : Items
 odd_numbers =
     with 1 (natural 0) (all (for (declares (binding 0 (natural 1) ∷ [])) (Some (two x op.LessEqual (natural 10))) (Some (add x (natural 1)))
-      (braces (when (two (two x op.Remainder (natural 2)) op.Same (natural 0)) continue ∷ run (add y x) ∷ [])) ∷ show y ∷ []))
+    (braces (when (two (two x op.Remainder (natural 2)) op.Same (natural 0)) continue ∷ run (add y x) ∷ [])) ∷ show y ∷ []))
 
 pub eleven_tests_add_five_odd_numbers : does odd_numbers texts 11 [] ≡ ended outcome.Done [] 11 (codes "25\n")
 unfolding digits
@@ -208,7 +208,7 @@ names_of_no_object_are_a_type_fault = refl
 abbrev printed_behind : ℕ → Run
 printed_behind n =
     follow (executes texts [] (show (text 11)) (ends outcome.Done) (ends outcome.Done) (ends outcome.Done)
-      (record { turns = 0; variables = λ x. value.Undefined; lines = replicate n 120 })) []
+    (record { turns = 0; variables = λ x. value.Undefined; lines = replicate n 120 })) []
 
 pub a_line_that_fills_the_room_is_kept : printed_behind 262141 ≡ done [] (replicate 262141 120 ++ codes "ab\n")
 a_line_that_fills_the_room_is_kept = refl

@@ -18,7 +18,7 @@ use Rattle.jo_meaning.specs.State.{Next, Scope, unless_fault, asks, made_in, fou
 use Rattle.jo_meaning.specs.Values.{is_falsy, apply, apply_unary, assigned, object_in}
 use Rattle.jo_meaning.specs.Keys.{key_in, name_value, prop_value}
 
--- an expression, a part of one or several, that takes what comes next with what it gives
+-- what gives a value, or something else: it takes what comes next with it
 abbrev pub Giving : Type 0 → Type 0
 Giving A = (A → Next) → Next
 

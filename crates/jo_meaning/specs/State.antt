@@ -76,7 +76,8 @@ take_turn (suc left) next s = Takes (next (record s { turns = left }))
 abbrev pub Scope : Type 0
 Scope = List ℕ
 
--- The number of the variable that a name means, which is that of the innermost block that declares it; there may be none. Variables are counted from the outermost block on.
+-- The number of the variable that a name means, which is that of the innermost block that declares it; there may be none.
+-- Variables are counted from the outermost block on. Nothing is done with them where a block begins: no accepted script reads a variable before its `let` has run.
 abbrev pub variable_of : Scope → Ident → Option ℕ
 variable_of [] x = None
 variable_of (name ∷ scope) x = if name == x.text.0 then Some (length scope) else variable_of scope x
