@@ -1,5 +1,6 @@
 pub mod Words
-pub mod WorkedExpressions
+pub mod WorkedOperators
+pub mod WorkedProperties
 pub mod WorkedStatements
 pub mod WorkedRuns
 pub mod Alone

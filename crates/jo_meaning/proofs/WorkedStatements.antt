@@ -200,6 +200,11 @@ names_are_joined_by_commas = refl
 pub no_names_are_an_empty_line : after (all (print_names shared_word ∷ [])) (reply.Names [] ∷ []) ≡ done (call.Names shared ∷ []) (codes "\n")
 no_names_are_an_empty_line = refl
 
+-- the same where the reply is of another kind
+pub a_reply_of_another_kind_has_no_names :
+    after (all (print_names shared_word ∷ [])) (found 1 ∷ []) ≡ done (call.Names shared ∷ []) (codes "\n")
+a_reply_of_another_kind_has_no_names = refl
+
 -- printNames(1);
 pub names_of_no_object_are_a_type_fault : after (all (print_names (natural 1) ∷ [])) [] ≡ fails outcome.TypeFault []
 names_of_no_object_are_a_type_fault = refl
