@@ -21,10 +21,10 @@ use Rattle.jo_model.specs.declared.call.Reply.TheVariants as reply
 use Rattle.jo_model.specs.Meaning.{line_of}
 use Rattle.jo_meaning.specs.Runs.{Interaction, Asks, Takes}
 use Rattle.jo_meaning.specs.State.{State, Next, Scope, ends, unless_fault, unless_refused, asks, made_in, found_in, flag_in, names_in, take_turn, variable_of, value_at, with_value_at}
-use Rattle.jo_meaning.specs.Values.{is_falsy, apply, apply_unary, assigned, object_in}
+use Rattle.jo_meaning.specs.Values.{is_falsy, apply, apply_unary, object_in}
 use Rattle.jo_meaning.specs.Keys.{key_in, name_value, prop_value}
 use Rattle.jo_meaning.specs.Printed.{most_line_bytes, line_of_names, prints}
-use Rattle.jo_meaning.specs.Expressions.{Giving, constant_value, Reference, plain, slot, property, on_property, get_value, put_value, deletes, assigns, operates, evaluates, refers, reaches, fills, operates_each, evaluates_each}
+use Rattle.jo_meaning.specs.Expressions.{Giving, constant_value, Reference, plain, slot, property, on_property, get_value, put_value, deletes, adjusts, assigns, operates, evaluates, refers, reaches, fills, operates_each, evaluates_each}
 use Rattle.jo_meaning.specs.Statements.{declared_in, declared_by, evaluates_or, steps, binds, starts, repeats, loops, loops_for, executes, executes_all}
 
 -- two ways to go on agree where the number of turns that are left is one of these
@@ -98,16 +98,6 @@ module _ (texts : Table) where
   agree_delete (slot x) P k k' h = h
   agree_delete (property base key) P k k' h = agree_on base key P _ _ (λ o p. agree_asks (call.Delete o p) P _ _ (λ r. h))
 
-  agree_compound : (operator : AssignOperator) (r : Reference) (right : Giving Value) → Keeps right
-      → Keeps (λ next. get_value texts r (λ old. right (λ v. unless_fault (assigned operator old v) (λ new. put_value texts r new (next new)))))
-  agree_compound operator r right give P k k' h =
-      agree_get r P _ _ (λ old. give P _ _ (λ v. agree_fault (assigned operator old v) P _ _ (λ new. agree_put r new P _ _ (h new))))
-
-  pub agree_assign : (operator : AssignOperator) (r : Reference) (right : Giving Value) → Keeps right → Keeps (assigns texts operator r right)
-  agree_assign assign_op.Set r right give P k k' h = give P _ _ (λ v. agree_put r v P _ _ (h v))
-  agree_assign assign_op.Add r right give P k k' h = agree_compound assign_op.Add r right give P k k' h
-  agree_assign assign_op.Subtract r right give P k k' h = agree_compound assign_op.Subtract r right give P k k' h
-
   pub agree_operator : (operator : BinaryOperator) (x : Value) (right : Giving Value) → Keeps right → Keeps (operates texts operator x right)
   agree_operator binary.Or x right give P k k' h = agree_if P (is_falsy texts x) _ _ _ _ (give P k k' h) (h x)
   agree_operator binary.And x right give P k k' h = agree_if P (is_falsy texts x) _ _ _ _ (h x) (give P k k' h)
@@ -122,6 +112,15 @@ module _ (texts : Table) where
   agree_operator binary.Minus x right give P k k' h = give P _ _ (λ y. agree_fault (apply binary.Minus x y) P k k' h)
   agree_operator binary.Times x right give P k k' h = give P _ _ (λ y. agree_fault (apply binary.Times x y) P k k' h)
   agree_operator binary.Remainder x right give P k k' h = give P _ _ (λ y. agree_fault (apply binary.Remainder x y) P k k' h)
+
+  agree_adjust : (operator : BinaryOperator) (r : Reference) (right : Giving Value) → Keeps right → Keeps (adjusts texts operator r right)
+  agree_adjust operator r right give P k k' h =
+      agree_get r P _ _ (λ old. agree_operator operator old right give P _ _ (λ new. agree_put r new P _ _ (h new)))
+
+  pub agree_assign : (operator : AssignOperator) (r : Reference) (right : Giving Value) → Keeps right → Keeps (assigns texts operator r right)
+  agree_assign assign_op.Set r right give P k k' h = give P _ _ (λ v. agree_put r v P _ _ (h v))
+  agree_assign assign_op.Add r right give P k k' h = agree_adjust binary.Plus r right give P k k' h
+  agree_assign assign_op.Subtract r right give P k k' h = agree_adjust binary.Minus r right give P k k' h
 
   mutual
     pub agree_expression : (scope : Scope) (e : Tree) → Keeps (evaluates texts scope e)
@@ -223,12 +222,14 @@ module _ (texts : Table) where
       → Agree (AtMost n) (loops texts test (λ again. body again k) k) (loops texts test (λ again. body again k') k')
   agree_loops test body t b n k k' h = record { by = λ s le. (agree_repeats s.turns test body t b n k k' h).by s le }
 
-  agree_for : (scope : Scope) (head : Head) (c step : Option Tree) (body : Next → Next → Next → Next) → KeepsThree body → (n : ℕ) (k k' : Next) → Agree (AtMost n) k k'
+  agree_for : (scope : Scope) (head : Head) (c step : Option Tree) (body : Scope → Next → Next → Next → Next) → KeepsThree (body scope)
+      → (n : ℕ) (k k' : Next) → Agree (AtMost n) k k'
       → Agree (AtMost n) (loops_for texts scope head c step body k) (loops_for texts scope head c step body k')
   agree_for scope head c step body keeps n k k' h =
-      agree_starts scope head (AtMost n) _ _ (agree_loops (evaluates_or texts (value.Bool true) scope c) (λ again after. body (steps texts scope step again) after (steps texts scope step again))
-      (agree_or (value.Bool true) scope c)
-      (λ n a a' b b' ha hb. keeps n _ _ _ _ _ _ (agree_steps scope step (AtMost n) a a' ha) hb (agree_steps scope step (AtMost n) a a' ha)) n k k' h)
+      agree_starts scope head (AtMost n) _ _ (agree_loops (evaluates_or texts (value.Bool true) scope c)
+        (λ again after. body scope (steps texts scope step again) after (steps texts scope step again))
+        (agree_or (value.Bool true) scope c)
+        (λ n a a' b b' ha hb. keeps n _ _ _ _ _ _ (agree_steps scope step (AtMost n) a a' ha) hb (agree_steps scope step (AtMost n) a a' ha)) n k k' h)
 
   mutual
     pub agree_statement : (scope : Scope) (statement : Statement) → KeepsThree (executes texts scope statement)
@@ -242,7 +243,7 @@ module _ (texts : Table) where
         agree_loops (evaluates texts scope e) (λ again after. executes texts scope body again after again) (agree_expression scope e)
         (λ n a a' b b' ha hb. agree_statement scope body n _ _ _ _ _ _ ha hb ha) n k k' hk
     agree_statement scope (for head e step body) n k k' b b' c c' hk hb hc =
-        agree_for (declared_by head ++ scope) head e step (executes texts (declared_by head ++ scope) body) (agree_statement (declared_by head ++ scope) body) n k k' hk
+        agree_for (declared_by head ++ scope) head e step (λ inner. executes texts inner body) (agree_statement (declared_by head ++ scope) body) n k k' hk
     agree_statement scope break n k k' b b' c c' hk hb hc = hb
     agree_statement scope continue n k k' b b' c c' hk hb hc = hc
     agree_statement scope (print es) n k k' b b' c c' hk hb hc = agree_each scope es (AtMost n) _ _ (λ values. agree_line (line_of texts values) (AtMost n) _ _ hk)

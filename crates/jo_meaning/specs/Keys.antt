@@ -26,7 +26,7 @@ abbrev pub digits_from : ℕ → List ℕ → Option ℕ
 digits_from before [] = Some before
 digits_from before (b ∷ text) = if is_digit b then digits_from (before * 10 + (b - 48)) text else None
 
--- the number whose decimal digits the text is; the first one is 0 only where it stands alone (CanonicalNumericIndexString)
+-- the number whose decimal digits the text is; the first one is 0 only where it stands alone
 abbrev pub numeral : List ℕ → Option ℕ
 numeral [] = None
 numeral (b ∷ text) = if b == 48 && not (is_empty text) then None else digits_from 0 (b ∷ text)
@@ -55,7 +55,7 @@ abbrev pub key_of_text : ℕ → Option (List ℕ) → Result Key Outcome
 key_of_text id None = Err KeyOutside
 key_of_text id (Some text) = key_by id (numeral text)
 
--- the key that a value is, or KeyOutside (ToPropertyKey)
+-- the key that a value is, or KeyOutside; other than ToPropertyKey it takes numbers and texts alone
 abbrev pub key_in : Table → Value → Result Key Outcome
 key_in texts (value.Int (pos n)) = key_at n
 key_in texts (value.Text t) = key_of_text t.0 (slice_get texts t.0)

@@ -17,4 +17,5 @@ most_line_bytes = 262144
 -- goes on with one more line, or ends with the lines before where there is no room for it and its end
 abbrev pub prints : List ℕ → Next → Next
 prints line next s =
-    if nat_le (length s.lines + length line + 1) most_line_bytes then next (record s { lines = s.lines ++ line ++ 10 ∷ [] }) else ends OutputFull s
+    if nat_le (length s.lines + length line + 1) most_line_bytes
+    then next (record s { lines = s.lines ++ line ++ 10 ∷ [] }) else ends OutputFull s

@@ -43,7 +43,7 @@ unless_refused _ next = next
 abbrev pub asks : Call → (Reply → Next) → Next
 asks call next s = Asks call s.lines (λ reply. unless_refused reply (next reply) s)
 
--- the object in the reply to a New; a reply of another kind reads as undefined, here and below
+-- the object in the reply to a New; any other reply that goes on reads as undefined, as in the next two
 abbrev pub made_in : Reply → Value
 made_in (reply.Made o) = value.Object o
 made_in _ = value.Undefined
@@ -76,8 +76,9 @@ take_turn (suc left) next s = Takes (next (record s { turns = left }))
 abbrev pub Scope : Type 0
 Scope = List ℕ
 
--- The number of the variable that a name means, which is that of the innermost block that declares it; there may be none.
--- Variables are counted from the outermost block on. Nothing is done with them where a block begins: no accepted script reads a variable before its `let` has run.
+-- the number of the variable that a name means: that of the innermost block in which it is declared, if any
+-- Variables are counted from the outermost block on. Nothing is done with them where a block begins:
+-- no accepted script reads a variable before its `let` has run.
 abbrev pub variable_of : Scope → Ident → Option ℕ
 variable_of [] x = None
 variable_of (name ∷ scope) x = if name == x.text.0 then Some (length scope) else variable_of scope x

@@ -1,4 +1,4 @@
--- What a statement means. It is given what comes next behind it, and behind the loop that a `break` leaves or a `continue` goes on with.
+-- What a statement means. It is given what comes next behind it, behind a `break` and behind a `continue`.
 use Rattle.std.specs.Prelude.{true, ℕ, zero, suc, if◌then◌else◌, List, [], ◌∷◌, ◌++◌, Option, Some, None}
 use Rattle.jo_value.specs.declared.value.Value.{Value}
 use Rattle.jo_value.specs.declared.value.Value.TheVariants as value
@@ -35,7 +35,7 @@ module _ (texts : Table) where
   evaluates_or other scope None next = next other
   evaluates_or other scope (Some e) next = evaluates texts scope e next
 
-  -- each `let` gives its variable a value each time that it is run, and undefined where none is written
+  -- a `let` that is run sets its variables anew, one after another: to the value written, or to undefined
   abbrev pub binds : Scope → List Binding → Next → Next
   binds scope [] next = next
   binds scope (b ∷ bindings) next =
@@ -52,20 +52,23 @@ module _ (texts : Table) where
 
   -- ---- loops
 
-  -- A loop that makes at most so many tests. Before each test a turn is taken; where the value is falsy the loop is left, and else its body is run with what comes again.
+  -- A loop with so many tests at most. Each test costs a turn, which is paid first. A falsy value leaves the loop,
+  -- and any other runs the body, which is given what comes again.
   abbrev pub repeats : ℕ → Giving Value → (Next → Next) → Next → Next
   repeats zero test body after = ends TurnsSpent
   repeats (suc most) test body after = λ s.
       take_turn s.turns (test (λ v. if is_falsy texts v then after else body (repeats most test body after))) s
 
-  -- a loop makes no more tests than turns are left
+  -- a loop: the turns that are left bound the tests, so that the recursion ends; the bound is never what ends a loop
   abbrev pub loops : Giving Value → (Next → Next) → Next → Next
   loops test body after s = repeats s.turns test body after s
 
-  -- A `for`, whose head, test, step and body see the names that the head declares. An empty test is true, and the step follows the body and each `continue`.
-  abbrev pub loops_for : Scope → Head → Option Tree → Option Tree → (Next → Next → Next → Next) → Next → Next
+  -- A `for`, whose head, test, step and body see the names that the head declares. A test that is not written passes,
+  -- and the step comes behind the body and behind each `continue`.
+  abbrev pub loops_for : Scope → Head → Option Tree → Option Tree → (Scope → Next → Next → Next → Next) → Next → Next
   loops_for scope head c step body next =
-      starts scope head (loops (evaluates_or (value.Bool true) scope c) (λ again. body (steps scope step again) next (steps scope step again)) next)
+      starts scope head (loops (evaluates_or (value.Bool true) scope c)
+        (λ again. body scope (steps scope step again) next (steps scope step again)) next)
 
   -- ---- statements
 
@@ -73,16 +76,20 @@ module _ (texts : Table) where
     -- what a statement does; the three that come last are what comes next, after a `break` and after a `continue`
     pub executes : Scope → Statement → Next → Next → Next → Next
     executes scope empty next broken continued = next
-    executes scope (block items) next broken continued = executes_all (declared_in items ++ scope) items next broken continued
+    executes scope (block items) next broken continued =
+        executes_all (declared_in items ++ scope) items next broken continued
     executes scope (when c a) next broken continued =
         evaluates texts scope c (λ v. if is_falsy texts v then next else executes scope a next broken continued)
     executes scope (either c a b) next broken continued =
         evaluates texts scope c (λ v. if is_falsy texts v then executes scope b next broken continued else executes scope a next broken continued)
-    executes scope (while c body) next broken continued = loops (evaluates texts scope c) (λ again. executes scope body again next again) next
-    executes scope (for head c step body) next broken continued = loops_for (declared_by head ++ scope) head c step (executes (declared_by head ++ scope) body) next
+    executes scope (while c body) next broken continued =
+        loops (evaluates texts scope c) (λ again. executes scope body again next again) next
+    executes scope (for head c step body) next broken continued =
+        loops_for (declared_by head ++ scope) head c step (λ inner. executes inner body) next
     executes scope break next broken continued = broken
     executes scope continue next broken continued = continued
-    executes scope (print es) next broken continued = evaluates_each texts scope es (λ values. prints (line_of texts values) next)
+    executes scope (print es) next broken continued =
+        evaluates_each texts scope es (λ values. prints (line_of texts values) next)
     executes scope (print_names e) next broken continued =
         evaluates texts scope e (λ v. unless_fault (object_in v) (λ o.
         asks (call.Names o) (λ reply. prints (line_of_names texts (names_in reply)) next)))
@@ -91,6 +98,7 @@ module _ (texts : Table) where
     -- the items of a block, one after another
     pub executes_all : Scope → Items → Next → Next → Next → Next
     executes_all scope no_items next broken continued = next
-    executes_all scope (declare bindings items) next broken continued = binds scope bindings (executes_all scope items next broken continued)
+    executes_all scope (declare bindings items) next broken continued =
+        binds scope bindings (executes_all scope items next broken continued)
     executes_all scope (perform statement items) next broken continued =
         executes scope statement (executes_all scope items next broken continued) broken continued

@@ -7,8 +7,6 @@ use Rattle.jo_value.specs.declared.value.Value.{Value}
 use Rattle.jo_value.specs.declared.value.Value.TheVariants as value
 use Rattle.jo_value.specs.Texts.{Table}
 use Rattle.jo_value.specs.Values.{is_strictly_equal}
-use Rattle.jo_tree.specs.declared.operator.AssignOperator.{AssignOperator}
-use Rattle.jo_tree.specs.declared.operator.AssignOperator.TheVariants as assign_op
 use Rattle.jo_tree.specs.declared.operator.BinaryOperator.{BinaryOperator}
 use Rattle.jo_tree.specs.declared.operator.BinaryOperator.TheVariants as binary
 use Rattle.jo_tree.specs.declared.operator.UnaryOperator.{UnaryOperator}
@@ -19,16 +17,19 @@ use Rattle.jo_model.specs.Meaning.{text_in}
 
 -- ---- truth
 
+abbrev pub is_zero : ℤ → Bool
+is_zero i = int_eq i (pos 0)
+
 abbrev pub is_empty : List ℕ → Bool
 is_empty [] = true
 is_empty (b ∷ text) = false
 
--- false, 0, the empty text, null and undefined are falsy (ToBoolean)
+-- undefined, null, false, zero and the text without bytes count as false (ToBoolean)
 abbrev pub is_falsy : Table → Value → Bool
 is_falsy texts value.Undefined = true
 is_falsy texts value.Null = true
 is_falsy texts (value.Bool b) = not b
-is_falsy texts (value.Int i) = int_eq i (pos 0)
+is_falsy texts (value.Int i) = is_zero i
 is_falsy texts (value.Text t) = is_empty (text_in texts t.0)
 is_falsy texts (value.Object o) = false
 
@@ -38,12 +39,9 @@ is_falsy texts (value.Object o) = false
 abbrev pub safe : ℤ → Result Value Outcome
 safe i = if nat_le (nat_abs i) MOST_NUMBER then Ok (value.Int i) else Err NotSafe
 
-abbrev pub is_zero : ℤ → Bool
-is_zero i = int_eq i (pos 0)
-
--- The remainder has the sign of the dividend. There is none by 0.
+-- what is left of the dividend when it is divided toward zero; NotSafe where the divisor is 0
 abbrev pub remainder : ℤ → ℤ → Result Value Outcome
-remainder i j = if is_zero j then Err NotSafe else safe (int_rem i j)
+remainder i j = if is_zero j then Err NotSafe else Ok (value.Int (int_rem i j))
 
 -- what an operator makes of two numbers; one that is not on numbers makes none
 abbrev pub of_numbers : BinaryOperator → ℤ → ℤ → Result Value Outcome
@@ -57,7 +55,7 @@ of_numbers binary.Times i j = safe (i *ℤ j)
 of_numbers binary.Remainder i j = remainder i j
 of_numbers _ i j = Err TypeFault
 
--- the same for two values: TypeFault where one is not a number
+-- the same for two values, of which both have to be numbers
 abbrev pub on_numbers : BinaryOperator → Value → Value → Result Value Outcome
 on_numbers operator (value.Int i) (value.Int j) = of_numbers operator i j
 on_numbers operator _ _ = Err TypeFault
@@ -76,12 +74,6 @@ negated _ = Err TypeFault
 abbrev pub apply_unary : Table → UnaryOperator → Value → Result Value Outcome
 apply_unary texts unary.Minus x = negated x
 apply_unary texts unary.Not x = Ok (value.Bool (is_falsy texts x))
-
--- what an assignment gives its target, by the old value and the right side
-abbrev pub assigned : AssignOperator → Value → Value → Result Value Outcome
-assigned assign_op.Set old x = Ok x
-assigned assign_op.Add old x = apply binary.Plus old x
-assigned assign_op.Subtract old x = apply binary.Minus old x
 
 -- ---- objects
 
