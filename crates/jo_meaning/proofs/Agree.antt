@@ -1,5 +1,5 @@
 -- Where two ways to go on agree at some numbers of turns, so does what expressions do before them; and what statements do, where they agree up to a number.
-use Rattle.std.proofs.Common.{◌≡◌, ℕ, zero, suc, ◌≤◌, Bool, true, false, List, [], ◌∷◌, refl, ap, arith, if◌then◌else◌}
+use Rattle.std.proofs.Common.{◌≡◌, ◌<◌, sym, ◌∙◌, ℕ, zero, suc, ◌≤◌, Bool, true, false, List, [], ◌∷◌, refl, ap, arith, if◌then◌else◌}
 use Rattle.std.specs.Prelude.{◌++◌, ◌+◌, nat_le, length, Option, Some, None, Result, Ok, Err}
 use mathlib.Core.Path.{fun_ext}
 use Rattle.jo_value.specs.declared.value.Key.{Key}
@@ -19,7 +19,7 @@ use Rattle.jo_model.specs.declared.call.Outcome.TheVariants as outcome
 use Rattle.jo_model.specs.declared.call.Reply.{Reply}
 use Rattle.jo_model.specs.declared.call.Reply.TheVariants as reply
 use Rattle.jo_model.specs.Meaning.{line_of}
-use Rattle.jo_meaning.specs.Runs.{Interaction, Asks, Takes}
+use Rattle.jo_meaning.specs.Runs.{Interaction, Ends, Asks, Takes}
 use Rattle.jo_meaning.specs.State.{State, Next, Scope, ends, unless_fault, unless_refused, asks, made_in, found_in, flag_in, names_in, take_turn, variable_of, value_at, with_value_at}
 use Rattle.jo_meaning.specs.Values.{is_falsy, apply, apply_unary, object_in}
 use Rattle.jo_meaning.specs.Keys.{key_in, name_value, prop_value}
@@ -222,14 +222,48 @@ module _ (texts : Table) where
       → Agree (AtMost n) (loops texts test (λ again. body again k) k) (loops texts test (λ again. body again k') k')
   agree_loops test body t b n k k' h = record { by = λ s le. (agree_repeats s.turns test body t b n k k' h).by s le }
 
+  -- each test costs a turn, which is paid first, and what comes again is the loop itself
+  module _ (test : Giving Value) (body : Next → Next → Next) (t : Keeps test) (b : KeepsTwo body) (after : Next) where
+    abbrev up_to : ℕ → Next
+    up_to most = repeats texts most test (λ again. body again after) after
+
+    abbrev one_test : Next → Next
+    one_test again = test (λ v. if is_falsy texts v then after else body again after)
+
+    agree_one : (n : ℕ) (again again' : Next) → ((s : State) → s.turns < n → again s ≡ again' s) → (s : State)
+        → take_turn n (one_test again) s ≡ take_turn n (one_test again') s
+    agree_one zero again again' h s = refl
+    agree_one (suc n) again again' h s =
+        ap Takes ((t (AtMost n) _ _ (λ v. agree_if (AtMost n) (is_falsy texts v) _ _ _ _ (same (AtMost n) after)
+        (b n _ _ _ _ (record { by = λ s le. h s (omega (arith, le)) }) (same (AtMost n) after)))).by (record s { turns = n }) (omega arith))
+
+    none_left : (n : ℕ) (f : Next) (s : State) → n ≤ 0 → take_turn n f s ≡ Ends outcome.TurnsSpent s.lines
+    none_left zero f s le = refl
+    none_left (suc n) f s le = absurd (omega (arith, le))
+
+    bounds : (m k : ℕ) (s : State) → s.turns ≤ m → s.turns ≤ k → up_to m s ≡ up_to k s
+    bounds zero zero s p q = refl
+    bounds zero (suc k) s p q = sym (none_left s.turns (one_test (up_to k)) s p)
+    bounds (suc m) zero s p q = none_left s.turns (one_test (up_to m)) s q
+    bounds (suc m) (suc k) s p q =
+        agree_one s.turns (up_to m) (up_to k) (λ s' lt. bounds m k s' (omega (arith, lt, p)) (omega (arith, lt, q))) s
+
+    abbrev whole : Next
+    whole = loops texts test (λ again. body again after) after
+
+    pub turn_by_turn : (s : State) → whole s ≡ take_turn s.turns (one_test whole) s
+    turn_by_turn s =
+        bounds s.turns (suc s.turns) s (omega arith) (omega arith)
+        ∙ agree_one s.turns (up_to s.turns) whole (λ s' lt. bounds s.turns s'.turns s' (omega (arith, lt)) (omega arith)) s
+
   agree_for : (scope : Scope) (head : Head) (c step : Option Tree) (body : Scope → Next → Next → Next → Next) → KeepsThree (body scope)
       → (n : ℕ) (k k' : Next) → Agree (AtMost n) k k'
       → Agree (AtMost n) (loops_for texts scope head c step body k) (loops_for texts scope head c step body k')
   agree_for scope head c step body keeps n k k' h =
       agree_starts scope head (AtMost n) _ _ (agree_loops (evaluates_or texts (value.Bool true) scope c)
-        (λ again after. body scope (steps texts scope step again) after (steps texts scope step again))
-        (agree_or (value.Bool true) scope c)
-        (λ n a a' b b' ha hb. keeps n _ _ _ _ _ _ (agree_steps scope step (AtMost n) a a' ha) hb (agree_steps scope step (AtMost n) a a' ha)) n k k' h)
+      (λ again after. body scope (steps texts scope step again) after (steps texts scope step again))
+      (agree_or (value.Bool true) scope c)
+      (λ n a a' b b' ha hb. keeps n _ _ _ _ _ _ (agree_steps scope step (AtMost n) a a' ha) hb (agree_steps scope step (AtMost n) a a' ha)) n k k' h)
 
   mutual
     pub agree_statement : (scope : Scope) (statement : Statement) → KeepsThree (executes texts scope statement)
@@ -256,3 +290,12 @@ module _ (texts : Table) where
     agree_items scope (declare bindings items) n k k' b b' c c' hk hb hc = agree_binds scope bindings (AtMost n) _ _ (agree_items scope items n _ _ _ _ _ _ hk hb hc)
     agree_items scope (perform statement items) n k k' b b' c c' hk hb hc =
         agree_statement scope statement n _ _ _ _ _ _ (agree_items scope items n _ _ _ _ _ _ hk hb hc) hb hc
+
+  -- a `while`, turn by turn
+  pub while_by_turns : (scope : Scope) (e : Tree) (body : Statement) (next broken continued : Next) (s : State)
+      → executes texts scope (while e body) next broken continued s
+      ≡ take_turn s.turns (evaluates texts scope e (λ v. if is_falsy texts v then next
+      else executes texts scope body (executes texts scope (while e body) next broken continued) next (executes texts scope (while e body) next broken continued))) s
+  while_by_turns scope e body next broken continued s =
+      turn_by_turn (evaluates texts scope e) (λ again after. executes texts scope body again after again) (agree_expression scope e)
+      (λ n a a' b b' ha hb. agree_statement scope body n _ _ _ _ _ _ ha hb ha) next s

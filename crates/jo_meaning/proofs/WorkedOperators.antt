@@ -4,9 +4,9 @@ use Rattle.std.specs.Prelude.{◌≡◌, [], ◌∷◌, codes}
 use Rattle.std.specs.Fmt.{digits}
 use Rattle.jo_tree.specs.declared.operator.BinaryOperator.TheVariants as op
 use Rattle.jo_tree.specs.declared.operator.UnaryOperator.TheVariants as unary_op
-use Rattle.jo_tree.specs.Trees.{Tree, unary, choose}
+use Rattle.jo_tree.specs.Trees.{Tree, unary, choose, group}
 use Rattle.jo_model.specs.declared.call.Outcome.TheVariants as outcome
-use Rattle.jo_meaning.proofs.Words.{natural, text, null_word, undefined_word, true_word, false_word, shared_word, shared_x, shared_y, minus, two, three, sum, show, all, name, get, found, after, printing, running, done, fails, waits}
+use Rattle.jo_meaning.proofs.Words.{natural, text, null_word, undefined_word, true_word, false_word, shared_word, shared_x, shared_y, minus, two, three, sum, show, all, name, get, found, after, printing, running, done, fails, waits, x, set, with}
 
 -- ---- operands and operators
 
@@ -30,6 +30,12 @@ both_operands_are_evaluated_before_a_type_fault = refl
 pub a_fault_comes_before_the_next_operand :
     running (three null_word op.Plus (natural 1) op.Plus shared_x) [] ≡ fails outcome.TypeFault []
 a_fault_comes_before_the_next_operand = refl
+
+-- let x = 1; print(x + (x = 2));
+pub a_left_operand_keeps_its_value_when_the_right_one_assigns :
+    after (with 0 (natural 1) (all (show (sum x (group (set x (natural 2)))) ∷ []))) [] ≡ done [] (codes "3\n")
+unfolding digits
+a_left_operand_keeps_its_value_when_the_right_one_assigns = refl
 
 -- 10 - 3 - 2
 pub operators_of_one_level_go_from_left_to_right :
@@ -134,6 +140,11 @@ and_gives_a_falsy_left_operand = refl
 pub and_gives_the_right_operand_otherwise : printing (two (natural 2) op.And shared_x) (found 0 ∷ []) ≡ done (get (name 0) ∷ []) (codes "0\n")
 unfolding digits
 and_gives_the_right_operand_otherwise = refl
+
+-- 1 && 0 && shared.x
+pub and_gives_the_first_falsy_operand_of_three : printing (three (natural 1) op.And (natural 0) op.And shared_x) [] ≡ done [] (codes "0\n")
+unfolding digits
+and_gives_the_first_falsy_operand_of_three = refl
 
 -- 2 || shared.x
 pub or_gives_a_left_operand_that_is_not_falsy : printing (two (natural 2) op.Or shared_x) [] ≡ done [] (codes "2\n")

@@ -10,7 +10,7 @@ use Rattle.jo_tree.specs.declared.operator.BinaryOperator.TheVariants as op
 use Rattle.jo_tree.specs.declared.operator.UnaryOperator.TheVariants as unary_op
 use Rattle.jo_tree.specs.declared.word.Name.TheVariants as word
 use Rattle.jo_tree.specs.declared.word.PropKey.TheVariants as prop_key
-use Rattle.jo_tree.specs.Trees.{Tree, group, object, cas, member, unary, delete, assign, no_props, prop, no_accesses, field, index}
+use Rattle.jo_tree.specs.Trees.{Tree, group, object, cas, member, unary, delete, assign, no_props, prop, no_accesses, field, index, run}
 use Rattle.jo_model.specs.declared.call.Call.TheVariants as call
 use Rattle.jo_model.specs.declared.call.Outcome.TheVariants as outcome
 use Rattle.jo_model.specs.declared.call.Reply.TheVariants as reply
@@ -201,6 +201,23 @@ pub a_fault_of_the_sum_comes_after_its_right_side_and_before_the_put :
     running (add shared_x shared_y) (reply.Found value.Undefined ∷ found 4 ∷ []) ≡ fails outcome.TypeFault (get (name 0) ∷ get (name 1) ∷ [])
 a_fault_of_the_sum_comes_after_its_right_side_and_before_the_put = refl
 
+-- shared[shared.x] += 1
+pub a_compound_assignment_evaluates_its_key_once :
+    running (add (read_at shared_x) (natural 1)) (found 7 ∷ found 3 ∷ reply.Done ∷ []) ≡ done (get (name 0) ∷ get (Index 7) ∷ put (Index 7) (integer 4) ∷ []) []
+a_compound_assignment_evaluates_its_key_once = refl
+
+-- let x = 5; x -= 2; print(x);
+pub a_variable_is_adjusted_too :
+    after (with 0 (natural 5) (all (run (assign assign_op.Subtract x (natural 2)) ∷ show x ∷ []))) [] ≡ done [] (codes "3\n")
+unfolding digits
+a_variable_is_adjusted_too = refl
+
+-- let x = shared.x; x.y = x = shared; where an object is found
+pub a_base_is_evaluated_before_the_right_side :
+    after (with 0 shared_x (all (run (set (dot x 1) (set x shared_word)) ∷ []))) (reply.Found (value.Object (record { pass = 1; number = 2 })) ∷ reply.Done ∷ [])
+    ≡ done (get (name 0) ∷ call.Put (record { pass = 1; number = 2 }) (name 1) (value.Object shared) ∷ []) []
+a_base_is_evaluated_before_the_right_side = refl
+
 -- shared.x += 1, where the largest number is found
 pub a_sum_that_is_not_safe_is_not_put :
     running (add shared_x (natural 1)) (found 9007199254740991 ∷ []) ≡ fails outcome.NotSafe (get (name 0) ∷ [])
@@ -222,6 +239,19 @@ a_key_is_evaluated_before_the_right_side = refl
 pub a_delete_is_true :
     printing (delete (read_at shared_x)) (found 3 ∷ reply.Flag true ∷ []) ≡ done (get (name 0) ∷ call.Delete shared (Index 3) ∷ []) (codes "true\n")
 a_delete_is_true = refl
+
+-- delete shared.x.y
+pub a_delete_reads_all_accesses_but_the_last :
+    printing (delete (member shared_word (field (word.Ident (ident 0)) (field (word.Ident (ident 1)) no_accesses))))
+    (reply.Found (value.Object (record { pass = 1; number = 2 })) ∷ reply.Flag true ∷ [])
+    ≡ done (get (name 0) ∷ call.Delete (record { pass = 1; number = 2 }) (name 1) ∷ []) (codes "true\n")
+a_delete_reads_all_accesses_but_the_last = refl
+
+-- the same where undefined is found
+pub a_delete_on_what_is_not_there_is_a_type_fault :
+    running (delete (member shared_word (field (word.Ident (ident 0)) (field (word.Ident (ident 1)) no_accesses)))) (reply.Found value.Undefined ∷ [])
+    ≡ fails outcome.TypeFault (get (name 0) ∷ [])
+a_delete_on_what_is_not_there_is_a_type_fault = refl
 
 -- delete null[1024]
 pub a_delete_has_the_type_fault_before_key_outside : running (delete (at null_word (natural 1024))) [] ≡ fails outcome.TypeFault []

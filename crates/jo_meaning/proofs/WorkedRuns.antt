@@ -8,13 +8,13 @@ use Rattle.jo_value.specs.declared.value.Value.TheVariants as value
 use Rattle.jo_tree.specs.declared.operator.BinaryOperator.TheVariants as op
 use Rattle.jo_tree.specs.declared.word.Name.TheVariants as word
 use Rattle.jo_tree.specs.declared.word.PropKey.TheVariants as prop_key
-use Rattle.jo_tree.specs.Trees.{Tree, object, cas, delete, no_props, prop, declares, while, for, print, print_names, run, Items}
+use Rattle.jo_tree.specs.Trees.{Tree, object, cas, delete, no_props, prop, declares, while, for, print, print_names, run, Items, no_items}
 use Rattle.jo_model.specs.declared.call.Outcome.{Outcome}
 use Rattle.jo_model.specs.declared.call.Outcome.TheVariants as outcome
 use Rattle.jo_model.specs.Objects.{Object, empty_object}
 use Rattle.jo_model.specs.Heaps.{Heap}
 use Rattle.jo_meaning.specs.Histories.{played_alone}
-use Rattle.jo_meaning.proofs.Words.{texts, ident, x, y, natural, text, shared_word, dot, at, shared_x, shared_y, shared_z, two, sum, set, add, show, all, binding, with, integer}
+use Rattle.jo_meaning.proofs.Words.{texts, ident, x, y, natural, text, undefined_word, shared_word, dot, at, shared_x, shared_y, shared_z, two, sum, set, add, show, all, binding, with, integer}
 
 -- a whole run
 record End : Type 0 where
@@ -87,6 +87,21 @@ pub a_swap_replaces_what_is_expected_and_nothing_else :
     ≡ leaves outcome.Done (codes "0\n1\n1\n") (of (named 0 1 ∷ []) []) []
 unfolding digits
 a_swap_replaces_what_is_expected_and_nothing_else = refl
+
+-- let y = undefined; print(cas(shared, "x", y, 1)); shared.x = y; print(cas(shared, "x", y, 1), shared.x);
+pub a_swap_finds_undefined_without_and_with_the_key_and_replaces_only_what_is_there :
+    left (with 1 undefined_word (all (show (cas shared_word (text 0) y (natural 1)) ∷ run (set shared_x y)
+    ∷ print (cas shared_word (text 0) y (natural 1) ∷ shared_x ∷ []) ∷ [])))
+    ≡ leaves outcome.Done (codes "undefined\nundefined 1\n") (of (named 0 1 ∷ []) []) []
+unfolding digits
+a_swap_finds_undefined_without_and_with_the_key_and_replaces_only_what_is_there = refl
+
+-- let x = {x: 1, y: 5, x: 2};
+pub a_name_that_is_written_twice_in_a_literal_keeps_its_place :
+    left (with 0 (object (prop (prop_key.Name (word.Ident (ident 0))) (natural 1) (prop (prop_key.Name (word.Ident (ident 1))) (natural 5)
+    (prop (prop_key.Name (word.Ident (ident 0))) (natural 2) no_props))) false) no_items)
+    ≡ leaves outcome.Done [] empty_object (of (named 0 2 ∷ named 1 5 ∷ []) [] ∷ [])
+a_name_that_is_written_twice_in_a_literal_keeps_its_place = refl
 
 -- for (let y = 0; y < 3; y += 1) { shared[y] = {x: y * 10}; } print(shared[2].x, shared[0] === shared[0], shared[0] === shared[1]);
 pub each_literal_makes_an_object_of_its_own :

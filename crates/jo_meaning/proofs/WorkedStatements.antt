@@ -9,6 +9,7 @@ use Rattle.jo_tree.specs.declared.word.PropKey.TheVariants as prop_key
 use Rattle.jo_tree.specs.Trees.{object, no_props, prop, declares, begins, Statement, empty, block, when, either, while, for, break, continue, print, print_names, run, Items, no_items, declare, perform}
 use Rattle.jo_model.specs.declared.call.Call.TheVariants as call
 use Rattle.jo_model.specs.declared.call.Outcome.TheVariants as outcome
+use Rattle.jo_model.specs.declared.call.Reply.{Reply}
 use Rattle.jo_model.specs.declared.call.Reply.TheVariants as reply
 use Rattle.jo_model.specs.Meaning.{shared}
 use Rattle.jo_meaning.specs.Runs.{Run, follow}
@@ -53,7 +54,7 @@ pub a_block_inside_leaves_the_variables_of_those_outside :
 unfolding digits
 a_block_inside_leaves_the_variables_of_those_outside = refl
 
--- let y = 2; while (y) { let x; print(x); x = y; y -= 1 }, by y += -1
+-- let y = 2; while (y) { let x; print(x); x = y; y += -1; }
 pub a_let_without_a_value_gives_undefined_each_time :
     after (with 1 (natural 2) (all (while y (block (declare (bare 0 ∷ []) (all (show x ∷ run (set x y) ∷ run (add y (minus (natural 1))) ∷ [])))) ∷ []))) []
     ≡ ended outcome.Done [] 3 (codes "undefined\nundefined\n")
@@ -147,6 +148,24 @@ pub a_continue_in_a_while_goes_on_with_the_test :
     ≡ ended outcome.Done (get (name 0) ∷ get (name 0) ∷ []) 2 []
 a_continue_in_a_while_goes_on_with_the_test = refl
 
+-- while (null.x) ;
+pub a_fault_of_a_test_has_taken_its_turn : after (all (while (dot null_word 0) empty ∷ [])) [] ≡ ended outcome.TypeFault [] 1 []
+a_fault_of_a_test_has_taken_its_turn = refl
+
+-- let y = 2; while (y) { y += -1; while (shared.x) { continue; } print(y); }
+pub a_continue_goes_on_with_the_innermost_loop :
+    after (with 1 (natural 2) (all (while y (braces (run (add y (minus (natural 1))) ∷ while shared_x (braces (continue ∷ [])) ∷ show y ∷ [])) ∷ [])))
+    (found 0 ∷ found 0 ∷ [])
+    ≡ ended outcome.Done (get (name 0) ∷ get (name 0) ∷ []) 5 (codes "1\n0\n")
+unfolding digits
+a_continue_goes_on_with_the_innermost_loop = refl
+
+-- for (let x = 0; x < 2;) { x += 1; continue; }
+pub a_continue_in_a_for_without_a_step_goes_on_with_the_test :
+    after (all (for (declares (binding 0 (natural 0) ∷ [])) (Some (two x op.Less (natural 2))) None (braces (run (add x (natural 1)) ∷ continue ∷ [])) ∷ [])) []
+    ≡ ended outcome.Done [] 3 []
+a_continue_in_a_for_without_a_step_goes_on_with_the_test = refl
+
 -- while (true) { while (true) { break; } print(1); break; } print(2);
 pub a_break_leaves_the_innermost_loop :
     after (all (while true_word (braces (while true_word (braces (break ∷ [])) ∷ show (natural 1) ∷ break ∷ [])) ∷ show (natural 2) ∷ [])) []
@@ -209,17 +228,24 @@ a_reply_of_another_kind_has_no_names = refl
 pub names_of_no_object_are_a_type_fault : after (all (print_names (natural 1) ∷ [])) [] ≡ fails outcome.TypeFault []
 names_of_no_object_are_a_type_fault = refl
 
--- what print("ab"); does where so many bytes were printed
-abbrev printed_behind : ℕ → Run
-printed_behind n =
-    follow (executes texts [] (show (text 11)) (ends outcome.Done) (ends outcome.Done) (ends outcome.Done)
-    (record { turns = 0; variables = λ x. value.Undefined; lines = replicate n 120 })) []
+-- what a statement does where so many bytes were printed, at these replies
+abbrev behind : ℕ → Statement → List Reply → Run
+behind n statement replies =
+    follow (executes texts [] statement (ends outcome.Done) (ends outcome.Done) (ends outcome.Done)
+    (record { turns = 0; variables = λ x. value.Undefined; lines = replicate n 120 })) replies
 
-pub a_line_that_fills_the_room_is_kept : printed_behind 262141 ≡ done [] (replicate 262141 120 ++ codes "ab\n")
+-- print("ab");
+pub a_line_that_fills_the_room_is_kept : behind 262141 (show (text 11)) [] ≡ done [] (replicate 262141 120 ++ codes "ab\n")
 a_line_that_fills_the_room_is_kept = refl
 
-pub one_byte_more_is_output_full_and_the_lines_before_are_kept : printed_behind 262142 ≡ ended outcome.OutputFull [] 0 (replicate 262142 120)
+pub one_byte_more_is_output_full_and_the_lines_before_are_kept :
+    behind 262142 (show (text 11)) [] ≡ ended outcome.OutputFull [] 0 (replicate 262142 120)
 one_byte_more_is_output_full_and_the_lines_before_are_kept = refl
+
+-- printNames(shared);
+pub names_without_room_are_output_full_after_their_call :
+    behind 262144 (print_names shared_word) (reply.Names [] ∷ []) ≡ ended outcome.OutputFull (call.Names shared ∷ []) 0 (replicate 262144 120)
+names_without_room_are_output_full_after_their_call = refl
 
 -- ---- ends
 

@@ -13,14 +13,13 @@ use Rattle.jo_meaning.specs.Scripts.{interaction_of, does}
 abbrev pub run_in : History → ℕ → Items → Table → ℕ → Run
 run_in w t script texts turns = does script texts turns (replies_of t w)
 
--- the calls of a script stand in a history once each, in its order, and the script has come to this outcome there
+-- pass t makes in the history exactly what the script asks, one after another, and the script ends there by this outcome
 pub record IsRunIn (w : History) (t : ℕ) (script : Items) (texts : Table) (turns : ℕ) (outcome : Outcome) : Type 0 where
   pub calls : calls_of t w ≡ (run_in w t script texts turns).calls
   pub ended : (run_in w t script texts turns).stand ≡ Ended outcome
 
--- A history of these scripts, of which number t, from 1, runs in pass t with so many turns: it is legal, pass 0, which sets up, has no
--- call in it, and the calls of each script stand in it once each, in its order, up to the script's end. The outcomes are
--- those of the scripts, in order.
+-- A history of these scripts with their outcomes, where each has so many turns: it is legal, pass 0 is silent in it,
+-- and script number t, counted from 1, is run to its end by pass t.
 pub record IsHistoryOf (scripts : List Items) (texts : Table) (turns : ℕ) (outcomes : List Outcome) (w : History) : Type 0 where
   pub legal : IsLegal (length scripts + 1) w
   pub setup : calls_of 0 w ≡ []

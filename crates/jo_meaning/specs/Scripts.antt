@@ -18,6 +18,6 @@ abbrev pub interaction_of : Items → Table → ℕ → Interaction
 interaction_of script texts turns =
     executes_all texts (declared_in script) script (ends Done) (ends Done) (ends Done) (state_at_start turns)
 
--- what a script does at these replies: the calls and the turns so far, the lines so far, and the call that waits or the outcome
+-- how far a script comes with these replies: what was answered, the turns it took, what it printed, and where it stands
 abbrev pub does : Items → Table → ℕ → List Reply → Run
 does script texts turns replies = follow (interaction_of script texts turns) replies

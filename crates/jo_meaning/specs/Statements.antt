@@ -68,7 +68,7 @@ module _ (texts : Table) where
   abbrev pub loops_for : Scope → Head → Option Tree → Option Tree → (Scope → Next → Next → Next → Next) → Next → Next
   loops_for scope head c step body next =
       starts scope head (loops (evaluates_or (value.Bool true) scope c)
-        (λ again. body scope (steps scope step again) next (steps scope step again)) next)
+      (λ again. body scope (steps scope step again) next (steps scope step again)) next)
 
   -- ---- statements
 
