@@ -59,7 +59,7 @@ module _ (texts : Table) where
   repeats (suc most) test body after = λ s.
       take_turn s.turns (test (λ v. if is_falsy texts v then after else body (repeats most test body after))) s
 
-  -- a loop: the turns that are left bound the tests, so that the recursion ends; the bound is never what ends a loop
+  -- a loop: the turns that are left bound the tests, so that the recursion ends; it ends no loop that has a turn left
   abbrev pub loops : Giving Value → (Next → Next) → Next → Next
   loops test body after s = repeats s.turns test body after s
 
