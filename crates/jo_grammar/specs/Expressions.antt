@@ -28,7 +28,7 @@ abbrev pub IsMember : Tree → Type 0
 IsMember (member e xs) = Unit {0}
 IsMember _ = ⊥
 
--- The tree is one of the level. Levels: 1 any expression, 2 a choice, 3 `||`, 4 `&&`, 5 `===`, 6 `<` and `in`, 7 `+`, 8 `*`, 9 a unary operator, 10 a postfix expression, 11 a primary one.
+-- The tree is an expression of this level or of a higher one. Levels: 1 any expression, 2 a choice, 3 `||`, 4 `&&`, 5 `===`, 6 `<` and `in`, 7 `+`, 8 `*`, 9 a unary operator, 10 a postfix expression, 11 a primary one.
 -- The flag says whether `in` may stand outside brackets.
 abbrev mutual
   pub Fits : Bool → ℕ → Tree → Type 0
@@ -46,7 +46,7 @@ abbrev mutual
   Fits ins l (choose a b c) = (l ≤ 2) × Fits ins 3 a × Fits ins 1 b × Fits ins 1 c
   Fits ins l (assign o a b) = (l ≤ 1) × IsTarget a × Fits ins 10 a × Fits ins 1 b
 
-  -- a comma before the brace wants a property before it, and `__proto__` is no key
+  -- a comma before the closing brace stands behind a property, and `__proto__` is no key
   pub FitProps : Props → Bool → Type 0
   FitProps no_props comma = comma ≡ false
   FitProps (prop k e ps) comma = (reads_proto (key_token k) ≡ false) × Fits true 1 e × FitMore ps

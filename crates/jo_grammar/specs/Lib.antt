@@ -2,3 +2,4 @@ pub mod Operators
 pub mod Expressions
 pub mod Statements
 pub mod Refusals
+pub mod Read

@@ -63,8 +63,8 @@ pub data Fault : Type 0 where
   unexpected : Fault
   too_deep : Fault
 
--- The tokens are refused where the rest begins, which is at their end where it is empty: what stands before can be continued to a text,
--- and with the next token it cannot, or that token opens a construct too many.
+-- The tokens are refused where the rest begins, or at their end where the rest is empty: what stands before keeps within the limit and begins some text,
+-- and no text goes on with the next token, or that token opens a construct too many.
 abbrev pub IsRefused : {A : Type 0} → Language A → ℕ → Fault → List Terminal → List Terminal → Type 0
 IsRefused L limit unexpected ts rest = (before : List Terminal) × (ts ≡ before ++ rest) × BeginsWithin L limit before × Never L before rest
 IsRefused L limit too_deep ts rest = (before : List Terminal) × (ts ≡ before ++ rest) × OpensTooMany L limit before rest × EachOpensTooMany L limit before rest

@@ -21,7 +21,7 @@ abbrev pub FitBindings : Bool → Bool → List Binding → Type 0
 FitBindings ins some [] = some ≡ false
 FitBindings ins some (b ∷ bs) = FitOptional ins b.1 × FitBindings ins false bs
 
--- `in` stands in no head outside brackets
+-- in the first part of a head no `in` stands outside brackets
 abbrev pub FitHead : Head → Type 0
 FitHead (declares bs) = FitBindings false true bs
 FitHead (begins e) = FitOptional false e
@@ -34,7 +34,7 @@ Closed (while c s) = Closed s
 Closed (for h c u s) = Closed s
 Closed _ = Unit {0}
 
--- the flag says whether the statement stands in that of a loop
+-- the flag says whether the statement is inside the body of a loop
 abbrev mutual
   pub FitStatement : Bool → Statement → Type 0
   FitStatement loops empty = Unit {0}

@@ -1,4 +1,4 @@
--- Syntax trees, as what is written: brackets and a comma before a brace stay in them.
+-- Syntax trees. They keep all that is written, brackets and a comma before a closing brace too.
 use Rattle.std.specs.Prelude.{ℕ, ℤ, Bool, List, Option}
 use Rattle.jo_tree.specs.declared.keyword.Keyword.{Keyword}
 use Rattle.jo_tree.specs.declared.operator.AssignOperator.{AssignOperator}
@@ -19,7 +19,7 @@ mutual
     variable : Ident → Tree
     -- in round brackets
     group : Tree → Tree
-    -- with whether a comma stands before the brace
+    -- an object literal, and whether a comma stands before its closing brace
     object : Props → Bool → Tree
     cas : Tree → Tree → Tree → Tree → Tree
     member : Tree → Accesses → Tree
@@ -46,7 +46,7 @@ mutual
     no_links : Links
     link : BinaryOperator → Tree → Links → Links
 
--- a variable that is declared, with what it is at first
+-- a declared variable and its initial value, where it has one
 abbrev pub Binding : Type 0
 Binding = Ident × Option Tree
 

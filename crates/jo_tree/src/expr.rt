@@ -28,7 +28,7 @@ pub enum Target {
     Member(Member),
 }
 
-/// A choice by a condition, or an expression that has none.
+/// A conditional expression, or a chain of operators.
 #[cycle(tree)]
 #[derive(Drop)]
 pub enum Cond {
@@ -36,7 +36,7 @@ pub enum Cond {
     Choice(Choice),
 }
 
-/// One of two expressions, by a condition.
+/// A conditional expression.
 #[cycle(tree)]
 #[derive(Drop)]
 pub struct Choice {
@@ -45,7 +45,7 @@ pub struct Choice {
     pub otherwise: Boxed<Expr>,
 }
 
-/// What binary operators of one level join, or an expression that has none.
+/// A chain of binary operators of one level, or a unary expression.
 #[cycle(tree)]
 #[derive(Drop)]
 pub enum Chain {
@@ -106,7 +106,7 @@ pub enum Access {
     Key(Boxed<Expr>),
 }
 
-/// An expression that no operator takes apart.
+/// A primary expression.
 #[cycle(tree)]
 #[derive(Drop)]
 pub enum Primary {

@@ -23,27 +23,27 @@ pub struct Let {
     pub bindings: Items<Binding>,
 }
 
-/// A variable that is declared, with what it is at first.
+/// A declared variable and its initial value, where it has one.
 #[derive(Drop)]
 pub struct Binding {
     pub ident: Ident,
     pub value: Option<Expr>,
 }
 
-/// A statement.
+/// A statement. What is large stands in boxes, so that many small statements take little room.
 #[cycle(statement)]
 #[derive(Drop)]
 pub enum Statement {
     Empty,
     Block(Block),
-    If(If),
-    While(While),
-    For(For),
+    If(Boxed<If>),
+    While(Boxed<While>),
+    For(Boxed<For>),
     Break,
     Continue,
     Print(Items<Expr>),
-    PrintNames(Expr),
-    Expr(Expr),
+    PrintNames(Boxed<Expr>),
+    Expr(Boxed<Expr>),
 }
 
 /// Items in braces.
@@ -53,31 +53,31 @@ pub struct Block {
     pub items: Items<Item>,
 }
 
-/// A statement that a condition lets run, and perhaps one that runs otherwise.
+/// An `if`, with or without an `else`.
 #[cycle(statement)]
 #[derive(Drop)]
 pub struct If {
     pub condition: Expr,
-    pub then: Boxed<Statement>,
-    pub otherwise: Option<Boxed<Statement>>,
+    pub then: Statement,
+    pub otherwise: Option<Statement>,
 }
 
-/// A statement that runs again while a condition holds.
+/// A `while`.
 #[cycle(statement)]
 #[derive(Drop)]
 pub struct While {
     pub condition: Expr,
-    pub body: Boxed<Statement>,
+    pub body: Statement,
 }
 
-/// A loop with a head of three parts.
+/// A `for`.
 #[cycle(statement)]
 #[derive(Drop)]
 pub struct For {
     pub head: ForHead,
     pub condition: Option<Expr>,
     pub step: Option<Expr>,
-    pub body: Boxed<Statement>,
+    pub body: Statement,
 }
 
 /// The first part of the head of a `for`.

@@ -19,6 +19,6 @@ pub enum Terminal {
     Text(Literal),
     /// A punctuator.
     Punct(Punct),
-    /// The end of the script.
+    /// What stands past the last token. No script has it within.
     End,
 }

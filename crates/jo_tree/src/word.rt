@@ -28,7 +28,7 @@ pub struct Literal {
 pub enum Name {
     /// A word that is not reserved.
     Ident(Ident),
-    /// A reserved word that the grammar names.
+    /// A reserved word that the grammar names. Its number is that of its text in the table.
     Keyword(Keyword),
     /// Any other reserved word, by its number in the table of texts.
     Reserved(TextId),
