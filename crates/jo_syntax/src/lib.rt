@@ -5,6 +5,7 @@ mod code;
 mod cursor;
 mod keyword;
 mod operator;
+mod parser;
 mod shape;
 mod stop;
 mod terminals;
