@@ -3,3 +3,4 @@ pub mod Expressions
 pub mod Statements
 pub mod Refusals
 pub mod Read
+pub mod ReadStatements

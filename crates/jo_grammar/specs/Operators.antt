@@ -1,5 +1,5 @@
 -- The tokens of operators, names and keys, and how tightly operators bind.
-use Rattle.std.specs.Prelude.{◌≡◌, ℕ, Bool, true, false}
+use Rattle.std.specs.Prelude.{ℕ, Bool, true, false}
 use Rattle.jo_lex.specs.declared.punct.Punct.TheVariants as p
 use Rattle.jo_tree.specs.declared.keyword.Keyword.{Keyword}
 use Rattle.jo_tree.specs.declared.keyword.Keyword.TheVariants as kw
@@ -9,8 +9,8 @@ use Rattle.jo_tree.specs.declared.operator.BinaryOperator.{BinaryOperator}
 use Rattle.jo_tree.specs.declared.operator.BinaryOperator.TheVariants as b
 use Rattle.jo_tree.specs.declared.operator.UnaryOperator.{UnaryOperator}
 use Rattle.jo_tree.specs.declared.operator.UnaryOperator.TheVariants as u
-use Rattle.jo_tree.specs.declared.terminal.Terminal.{Terminal}
-use Rattle.jo_tree.specs.declared.terminal.Terminal.TheVariants as t
+use Rattle.jo_grammar.specs.declared.terminal.Terminal.{Terminal}
+use Rattle.jo_grammar.specs.declared.terminal.Terminal.TheVariants as t
 use Rattle.jo_tree.specs.declared.word.Name.{Name}
 use Rattle.jo_tree.specs.declared.word.Name.TheVariants as n
 use Rattle.jo_tree.specs.declared.word.PropKey.{PropKey}

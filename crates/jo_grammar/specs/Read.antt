@@ -1,5 +1,5 @@
 -- How the tokens of an expression are read, step by step. The methods of the parser have these functions as their contracts; what they answer is proved exact, so nobody need believe them.
-use Rattle.std.specs.Prelude.{◌≡◌, ℕ, zero, suc, ◌+◌, ◌-◌, ◌==◌, Bool, true, false, ◌&&◌, if◌then◌else◌, List, [], ◌∷◌, length, Option, None, Some, Result, Ok, Err}
+use Rattle.std.specs.Prelude.{ℕ, zero, suc, ◌+◌, ◌-◌, ◌==◌, Bool, true, false, ◌&&◌, if◌then◌else◌, List, [], ◌∷◌, length, Option, None, Some, Result, Ok, Err}
 use Rattle.jo_lex.specs.declared.punct.Punct.{Punct}
 use Rattle.jo_lex.specs.declared.punct.Punct.TheVariants as p
 use Rattle.jo_tree.specs.declared.keyword.Keyword.{Keyword}
@@ -10,8 +10,8 @@ use Rattle.jo_tree.specs.declared.operator.BinaryOperator.{BinaryOperator}
 use Rattle.jo_tree.specs.declared.operator.BinaryOperator.TheVariants as bin
 use Rattle.jo_tree.specs.declared.operator.UnaryOperator.{UnaryOperator}
 use Rattle.jo_tree.specs.declared.operator.UnaryOperator.TheVariants as u
-use Rattle.jo_tree.specs.declared.terminal.Terminal.{Terminal}
-use Rattle.jo_tree.specs.declared.terminal.Terminal.TheVariants as t
+use Rattle.jo_grammar.specs.declared.terminal.Terminal.{Terminal}
+use Rattle.jo_grammar.specs.declared.terminal.Terminal.TheVariants as t
 use Rattle.jo_tree.specs.declared.word.Name.{Name}
 use Rattle.jo_tree.specs.declared.word.Name.TheVariants as n
 use Rattle.jo_tree.specs.declared.word.PropKey.{PropKey}
@@ -239,9 +239,9 @@ props_from below zero found ts = Err (unexpected, ts)
 props_from below (suc n) found ts =
     if sees (t.Punct p.CloseBrace) ts then Ok (object found false, next ts)
     else (if sees (t.Punct p.Comma) ts
-      then (if sees (t.Punct p.CloseBrace) (next ts) then Ok (object found true, next (next ts))
-        else and_then (property below (next ts)) (λ x r. props_from below n (with_prop found x.0 x.1) r))
-      else Err (unexpected, ts))
+    then (if sees (t.Punct p.CloseBrace) (next ts) then Ok (object found true, next (next ts))
+    else and_then (property below (next ts)) (λ x r. props_from below n (with_prop found x.0 x.1) r))
+    else Err (unexpected, ts))
 
 unfoldable pub object_after : Below → Reader Tree
 object_after below ts =
@@ -337,7 +337,7 @@ is_target _ = false
 unfoldable pub assignment : ℕ → Below → Bool → Reader Tree
 assignment room below ins ts =
     and_then (condition room below ins ts) (λ x r. if is_target x && (rank ins (peek r) == 1)
-      then and_then (open_at room r) (λ _ s. and_then (below ins 1 s) (λ y s. Ok (assign (assign_of (peek r)) x y, s))) else Ok (x, r))
+    then and_then (open_at room r) (λ _ s. and_then (below ins 1 s) (λ y s. Ok (assign (assign_of (peek r)) x y, s))) else Ok (x, r))
 
 -- at a level: 1, one of 4 to 9, or 10, at which only a property is read
 abbrev pub at_level : ℕ → Below → Bool → ℕ → Reader Tree
