@@ -1,0 +1,6 @@
+pub mod Lists
+pub mod Rooms
+pub mod Targets
+pub mod Words
+pub mod Rules
+pub mod Given

@@ -1,0 +1,16 @@
+//! From the tokens of a script to its tree.
+#![tactic(auto)]
+
+mod code;
+mod cursor;
+mod expression;
+mod keyword;
+mod operator;
+mod parser;
+mod shape;
+mod stop;
+mod terminals;
+
+pub use expression::{MOST_OPEN, parse_expression};
+pub use keyword::KEYWORDS;
+pub use terminals::PROTO;
