@@ -10,6 +10,8 @@ mod parser;
 mod shape;
 mod stop;
 mod terminals;
+#[cfg(test)]
+mod tests;
 
 pub use expression::{MOST_OPEN, parse_expression};
 pub use keyword::KEYWORDS;
