@@ -8,7 +8,10 @@ mod script;
 mod terminal;
 mod word;
 
-pub use expr::{Access, Assign, Binary, Cas, Chain, Choice, Cond, Expr, Link, Member, Object, Postfix, Primary, Prop, Target, Unary};
+pub use expr::{
+    Access, Assign, Binary, Cas, Chain, Choice, Cond, Expr, Link, Member, Object, Postfix, Primary,
+    Prop, Target, Unary,
+};
 pub use keyword::Keyword;
 pub use operator::{AssignOperator, BinaryOperator, UnaryOperator};
 pub use script::{Binding, Block, For, ForHead, If, Item, Let, Script, Statement, While};
