@@ -1,19 +1,16 @@
 -- The plain tree that a statement, a declaration or a script of the code stands for.
-use Rattle.std.specs.Prelude.{List, [], ◌∷◌, Option, None, Some, map}
+use Rattle.std.specs.Prelude.{List, [], ◌∷◌, Option, None, Some}
 use Rattle.jo_tree.specs.declared.expr.Expr.{Expr}
 use Rattle.jo_tree.specs.declared.script.Binding.{Binding}
 use Rattle.jo_tree.specs.declared.script.Let.{Let}
 use Rattle.jo_tree.specs.declared.script.ForHead.{ForHead}
 use Rattle.jo_tree.specs.declared.script.ForHead.TheVariants as h
 use Rattle.jo_tree.specs.declared.script.Script.{Script}
-use Rattle.jo_tree.specs.declared.script.Item.{Item, Row_of-Item, more_of-Item, end_of-Item}
+use Rattle.jo_tree.specs.declared.script.Item.{Item}
 use Rattle.jo_tree.specs.declared.script.Item.TheVariants as i
-use Rattle.jo_tree.specs.declared.script.Item.TheBlock.{Held-If-otherwise, None', Some'}
+use Rattle.jo_tree.specs.declared.script.Item.TheBlock.{Held-If-otherwise, None', Some', Row_of-Item, more_of-Item, end_of-Item, more_of-If, end_of-If, more_of-While, end_of-While, more_of-For, end_of-For}
 use Rattle.jo_tree.specs.declared.script.Statement.{Statement}
 use Rattle.jo_tree.specs.declared.script.Statement.TheVariants as s
-use Rattle.jo_tree.specs.declared.script.If.{If, more_of-If, end_of-If}
-use Rattle.jo_tree.specs.declared.script.While.{While, more_of-While, end_of-While}
-use Rattle.jo_tree.specs.declared.script.For.{For, more_of-For, end_of-For}
 use Rattle.jo_tree.specs.Trees.{Tree, Head, Items, declares, begins, empty, block, when, either, while, for, break, continue, print, print_names, run, no_items, declare, perform}
 use Rattle.jo_tree.specs.Trees as plain
 use Rattle.jo_tree.specs.Views.{expr_tree}
