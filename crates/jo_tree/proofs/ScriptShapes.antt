@@ -7,7 +7,7 @@ use Rattle.jo_tree.specs.declared.script.Item.TheVariants as i
 use Rattle.jo_tree.specs.declared.script.Item.TheBlock as hid
 use Rattle.jo_tree.specs.declared.script.Statement.{Statement}
 use Rattle.jo_tree.specs.declared.script.Statement.TheVariants as s
-use Rattle.jo_tree.specs.declared.script.Block.{Block}
+use Rattle.jo_tree.specs.declared.script.Block.{Block, roll-Block}
 use Rattle.jo_tree.specs.declared.script.If.{If}
 use Rattle.jo_tree.specs.declared.script.While.{While}
 use Rattle.jo_tree.specs.declared.script.For.{For}
@@ -28,6 +28,9 @@ statement_tree-empty = refl
 pub statement_tree-block : (v : Block) → statement_tree (s.Block v) ≡ block (items_list v.items)
 unfolding statement_tree denote.Hole.Carrier.hidden
 statement_tree-block v = ap (λ v. block v) (items-row v.items)
+
+pub statement_tree-block-of : (xs : List Item) → statement_tree (s.Block (roll-Block record { items = xs })) ≡ block (items_list xs)
+statement_tree-block-of xs = statement_tree-block (roll-Block record { items = xs })
 
 if-made : (c : Expr) (x : Statement) (o : Option Statement) → statement_tree (s.If record { condition = c; then = x; otherwise = o }) ≡ if_tree (expr_tree c) (statement_tree x) (optional_statement o)
 unfolding statement_tree Rattle.jo_tree.specs.declared.script.Item.TheBlock.hidden-the_row-If-1 denote.Hole.Carrier.hidden
@@ -66,7 +69,7 @@ unfolding statement_tree
 statement_tree-run e = refl
 
 -- the trees of the kinds of statement
-pub ruleset script_shapes = (statement_tree-empty, statement_tree-block, statement_tree-if, statement_tree-while, statement_tree-for, statement_tree-break, statement_tree-continue, statement_tree-print, statement_tree-print_names, statement_tree-run)
+pub ruleset script_shapes = (statement_tree-empty, statement_tree-block-of, statement_tree-if, statement_tree-while, statement_tree-for, statement_tree-break, statement_tree-continue, statement_tree-print, statement_tree-print_names, statement_tree-run)
 
 -- ---- lists, with one more at the end
 
