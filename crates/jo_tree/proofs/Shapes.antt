@@ -9,7 +9,7 @@ use Rattle.jo_tree.specs.declared.expr.Cond.{Cond}
 use Rattle.jo_tree.specs.declared.expr.Chain.{Chain}
 use Rattle.jo_tree.specs.declared.expr.Binary.{roll-Binary}
 use Rattle.jo_tree.specs.declared.expr.Member.{Member}
-use Rattle.jo_tree.specs.declared.expr.Object.{roll-Object}
+use Rattle.jo_tree.specs.declared.expr.Object.{Object, roll-Object}
 use Rattle.jo_tree.specs.declared.expr.Unary.{Unary}
 use Rattle.jo_tree.specs.declared.expr.Postfix.{Postfix}
 use Rattle.jo_tree.specs.declared.expr.Primary.{Primary}
@@ -27,8 +27,8 @@ use Rattle.jo_tree.specs.declared.expr.Postfix.TheVariants as x
 use Rattle.jo_tree.specs.declared.expr.Primary.TheVariants as p
 use Rattle.jo_tree.specs.declared.expr.Target.TheVariants as t
 use Rattle.jo_tree.specs.declared.expr.Access.TheVariants as a
-use Rattle.jo_tree.specs.Trees.{number, literal, constant, variable, group, object, member, unary, delete, chain, prop, field, index, link}
-use Rattle.jo_tree.specs.Views.{expr_tree, target_tree, cond_tree, chain_tree, unary_tree, postfix_tree, primary_tree, props_row, links_row, accesses_row, props_list, links_list, accesses_list, assign_tree, choice_tree, member_tree, cas_tree}
+use Rattle.jo_tree.specs.Trees.{Accesses, number, literal, constant, variable, group, object, member, unary, delete, chain, prop, field, index, link}
+use Rattle.jo_tree.specs.Views.{expr_tree, target_tree, cond_tree, chain_tree, unary_tree, postfix_tree, primary_tree, object_tree, props_row, links_row, accesses_row, props_list, links_list, accesses_list, accesses_with, assign_tree, choice_tree, member_tree, cas_tree}
 
 -- ---- the lists of the code
 
@@ -47,6 +47,10 @@ unfolding expr_tree Rattle.jo_tree.specs.declared.expr.Access.TheBlock.hidden-th
 accesses-row [] = refl
 accesses-row (a.Name k ∷ xs) = ap (λ v. field k v) (accesses-row xs)
 accesses-row (a.Key' q (more_of-Expr e end_of-Expr) ∷ xs) = ap (λ v. index (expr_tree e) v) (accesses-row xs)
+
+pub accesses_with-key : (xs : Accesses) (v : Expr) → accesses_with xs (a.Key v) ≡ index (expr_tree v) xs
+unfolding expr_tree Rattle.jo_tree.specs.declared.expr.Access.TheBlock.hidden-the_row-Expr-0 denote.Hole.Carrier.hidden
+accesses_with-key xs v = refl
 
 -- ---- the kinds of expression
 
@@ -134,9 +138,13 @@ pub primary_tree-ident : (v : Ident) → primary_tree (p.Ident v) ≡ variable v
 unfolding expr_tree
 primary_tree-ident v = refl
 
-pub primary_tree-object : (ps : List Prop) (comma : Bool) → primary_tree (p.Object (roll-Object record { props = ps; has_comma = comma })) ≡ object (props_list ps) comma
+pub primary_tree-object : (v : Object) → primary_tree (p.Object v) ≡ object_tree v
+unfolding expr_tree
+primary_tree-object v = refl
+
+pub object_tree-of : (ps : List Prop) (comma : Bool) → object_tree (roll-Object record {props = ps; has_comma = comma}) ≡ object (props_list ps) comma
 unfolding expr_tree denote.Hole.Carrier.hidden roll-Object denote.Hole.Carrier.roll
-primary_tree-object ps comma = ap (λ v. object v comma) (props-row ps)
+object_tree-of ps comma = ap (λ v. object v comma) (props-row ps)
 
 pub primary_tree-group : (v : Expr) → primary_tree (p.Group v) ≡ group (expr_tree v)
 unfolding expr_tree Rattle.jo_tree.specs.declared.expr.Access.TheBlock.hidden-the_row-Expr-0 denote.Hole.Carrier.hidden
@@ -147,4 +155,4 @@ unfolding expr_tree Rattle.jo_tree.specs.declared.expr.Access.TheBlock.hidden-th
 primary_tree-cas v = refl
 
 -- the trees of the kinds of expression
-pub ruleset shapes = (expr_tree-cond, expr_tree-assign, target_tree-ident, target_tree-member, cond_tree-chain, cond_tree-choice, chain_tree-unary, chain_tree-binary, unary_tree-applied, unary_tree-delete, unary_tree-postfix, postfix_tree-primary, postfix_tree-member, primary_tree-number, primary_tree-text, primary_tree-true, primary_tree-false, primary_tree-null, primary_tree-undefined, primary_tree-shared, primary_tree-ident, primary_tree-object, primary_tree-group, primary_tree-cas)
+pub ruleset shapes = (accesses_with-key, expr_tree-cond, expr_tree-assign, target_tree-ident, target_tree-member, cond_tree-chain, cond_tree-choice, chain_tree-unary, chain_tree-binary, unary_tree-applied, unary_tree-delete, unary_tree-postfix, postfix_tree-primary, postfix_tree-member, primary_tree-number, primary_tree-text, primary_tree-true, primary_tree-false, primary_tree-null, primary_tree-undefined, primary_tree-shared, primary_tree-ident, primary_tree-object, object_tree-of, primary_tree-group, primary_tree-cas)

@@ -1,0 +1,5 @@
+pub mod Lists
+pub mod Rooms
+pub mod Targets
+pub mod Words
+pub mod Rules

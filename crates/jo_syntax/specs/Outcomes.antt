@@ -1,0 +1,30 @@
+-- What a method of the parser ensures.
+use Rattle.std.specs.Prelude.{◌≡◌, ℕ, Bool, List, Result, Ok, Err}
+use Rattle.jo_tree.specs.declared.expr.Prop.{Prop}
+use Rattle.jo_tree.specs.declared.word.PropKey.{PropKey}
+use Rattle.jo_tree.specs.Trees.{Tree, assign}
+use Rattle.jo_tree.specs.Views.{expr_tree}
+use Rattle.jo_tree.specs.declared.terminal.Terminal.{Terminal}
+use Rattle.jo_grammar.specs.Refusals.{unexpected, too_deep}
+use Rattle.jo_grammar.specs.Read.{Reading, Reader, Below, and_then, open_at, peek, assign_of}
+use Rattle.jo_syntax.specs.declared.stop.Stop.{Stop}
+use Rattle.jo_syntax.specs.declared.stop.Stop.TheVariants as s
+
+-- nothing is said where memory fails
+abbrev pub Fails : {A : Type 0} → Reading A → Stop → List Terminal → Type 0
+Fails outcome s.Memory new = Unit {0}
+Fails outcome s.Unexpected new = outcome ≡ Err (unexpected, new)
+Fails outcome s.NestedTooDeep new = outcome ≡ Err (too_deep, new)
+
+-- the outcome, and the tokens from which to go on, which after a refusal begin with the offending one
+abbrev pub Reads : {X A : Type 0} → (X → A) → Reading A → Result X Stop → List Terminal → Type 0
+Reads view outcome (Ok x) new = outcome ≡ Ok (view x, new)
+Reads view outcome (Err f) new = Fails outcome f new
+
+-- a property of an object literal
+abbrev pub prop_tree : Prop → PropKey × Tree
+prop_tree x = (x.key, expr_tree x.value)
+
+-- the rest of an assignment to the target, from its operator on
+abbrev pub assigned : ℕ → Below → Bool → Tree → Reader Tree
+assigned room below ins x ts = and_then (open_at room ts) (λ _ r. and_then (below ins 1 r) (λ y r. Ok (assign (assign_of (peek ts)) x y, r)))

@@ -1,0 +1,58 @@
+-- The terminals of a script's tokens.
+use Rattle.std.specs.Prelude.{ℕ, Bool, true, false, not, List, [], ◌∷◌, map, if◌then◌else◌, Option, None, Some, codes, slice_index_or}
+use Rattle.std.specs.List.{take_while}
+use Rattle.std.specs.Str.{bytes_eq}
+use Rattle.jo_value.specs.declared.value.TextId.{TextId}
+use Rattle.jo_value.specs.Texts.{Table}
+use Rattle.jo_lex.specs.declared.token.Token.{Token}
+use Rattle.jo_lex.specs.declared.token.TokenKind.{TokenKind}
+use Rattle.jo_lex.specs.declared.token.TokenKind.TheVariants as kind
+use Rattle.jo_tree.specs.declared.keyword.Keyword.{Keyword}
+use Rattle.jo_tree.specs.declared.terminal.Terminal.{Terminal}
+use Rattle.jo_tree.specs.declared.terminal.Terminal.TheVariants as t
+use Rattle.jo_syntax.specs.declared.keyword.TheConstants.{KEYWORDS}
+
+-- the keyword whose word has these bytes
+abbrev pub keyword_in : List (List ℕ × Keyword) → List ℕ → Option Keyword
+keyword_in [] word = None
+keyword_in (row ∷ rows) word = if bytes_eq row.0 word then Some row.1 else keyword_in rows word
+
+unfoldable pub keyword_of : List ℕ → Option Keyword
+keyword_of word = keyword_in (map (λ row. (row.0.now, row.1)) KEYWORDS) word
+
+-- the text of the number, or an empty one where the table has none
+abbrev pub text_at : Table → TextId → List ℕ
+text_at table id = slice_index_or table id.0 []
+
+abbrev pub is_proto : Table → TextId → Bool
+is_proto table id = bytes_eq (text_at table id) (codes "__proto__")
+
+abbrev pub keyword_or_reserved : TextId → Option Keyword → Terminal
+keyword_or_reserved id None = t.Reserved id
+keyword_or_reserved id (Some w) = t.Keyword w
+
+abbrev pub reserved : Table → TextId → Terminal
+reserved table id = keyword_or_reserved id (keyword_of (text_at table id))
+
+-- a token of the kind at the place
+abbrev pub kind_terminal : Table → ℕ → TokenKind → Terminal
+kind_terminal table place (kind.Word id) = t.Ident record {text = id; place = place; is_proto = is_proto table id}
+kind_terminal table place (kind.Reserved id) = reserved table id
+kind_terminal table place (kind.Number n) = t.Number n
+kind_terminal table place (kind.Text id) = t.Text record {text = id; is_proto = is_proto table id}
+kind_terminal table place (kind.Punct c) = t.Punct c
+kind_terminal table place kind.End = t.End
+
+abbrev pub terminal_of : Table → Token → Terminal
+terminal_of table token = kind_terminal table token.start token.kind
+
+abbrev pub is_end_kind : TokenKind → Bool
+is_end_kind kind.End = true
+is_end_kind _ = false
+
+abbrev pub is_end : Token → Bool
+is_end token = is_end_kind token.kind
+
+-- the terminals of the tokens before the end
+abbrev pub terminals_of : Table → List Token → List Terminal
+terminals_of table tokens = map (terminal_of table) (take_while (λ token. not (is_end token)) tokens)
