@@ -1,5 +1,5 @@
 -- Assignments are read exactly.
-use Rattle.std.proofs.Common.{◌≡◌, ◌==◌, eqb, ◌⊎◌, inl, inr, Bool, true, false, if◌then◌else◌, ◌&&◌, ℕ, ◌+◌, ◌≤◌, ◌<◌, List, [], ◌∷◌, ◌++◌, Ok, refl, sym, ◌∙◌, ap, subst, arith}
+use Rattle.std.proofs.Common.{◌≡◌, ◌==◌, eqb, ◌⊎◌, inl, inr, Bool, true, false, if◌then◌else◌, ◌&&◌, ℕ, ◌+◌, ◌<◌, List, [], ◌∷◌, ◌++◌, Ok, refl, sym, ◌∙◌, ap, subst, arith}
 use Rattle.std.proofs.lemmas.Bool.{eqb-true, eq-eqb}
 use Rattle.jo_tree.specs.declared.operator.AssignOperator.{AssignOperator}
 use Rattle.jo_tree.specs.declared.terminal.Terminal.{Terminal}

@@ -1,14 +1,13 @@
 -- Binary operators: each of their levels is read exactly.
-use Rattle.std.proofs.Common.{◌≡◌, ◌==◌, eqb, ◌⊎◌, inl, inr, Bool, true, false, if◌then◌else◌, zero, suc, ℕ, ◌+◌, ◌≤◌, ◌<◌, List, [], ◌∷◌, ◌++◌, Result, Ok, Err, refl, sym, ◌∙◌, ap, subst, append_assoc, arith, length, length-append}
+use Rattle.std.proofs.Common.{◌≡◌, ◌==◌, eqb, ◌⊎◌, inl, inr, Bool, true, false, zero, suc, ℕ, ◌+◌, ◌≤◌, ◌<◌, List, [], ◌∷◌, ◌++◌, Ok, refl, sym, ◌∙◌, ap, subst, arith, length}
 use Rattle.std.proofs.lemmas.Bool.{eqb-true, eq-eqb}
 use Rattle.jo_tree.specs.declared.operator.BinaryOperator.{BinaryOperator}
-use Rattle.jo_tree.specs.declared.operator.BinaryOperator.TheVariants as bin
 use Rattle.jo_tree.specs.declared.terminal.Terminal.{Terminal}
 use Rattle.jo_tree.specs.Trees.{Tree, number, literal, constant, variable, group, object, cas, member, unary, delete, chain, choose, assign, Links, no_links, link}
-use Rattle.jo_grammar.specs.Operators.{binary_token, level_of}
+use Rattle.jo_grammar.specs.Operators.{binary_token}
 use Rattle.jo_grammar.specs.Expressions.{Mark, Fits, FitLinks, spelling, links}
 use Rattle.jo_grammar.specs.Refusals.{Language, terms}
-use Rattle.jo_grammar.specs.Read.{and_then, open_at, peek, next, rank, binary_of, with_link, Below, prefixed, links_from, chain_of, chains}
+use Rattle.jo_grammar.specs.Read.{peek, next, rank, binary_of, with_link, Below, prefixed, links_from, chain_of, chains}
 use Rattle.jo_grammar.proofs.Outcome.{Outcome, bind, outcome-bind, outcome-choose, Any, nothing, outcome-pure, one, outcome-same, mapped, outcome-map, outcome-if, join, opened-after}
 use Rattle.jo_grammar.proofs.Levels.{at, Above, ReadsAt, outcome-below, some_tree, nil-right, not-longer, rank-cons, Fits-lower}
 use Rattle.jo_grammar.proofs.Operands.{outcome-prefixed}

@@ -10,3 +10,13 @@ pub mod Exact
 pub mod Accepted
 pub mod Exclusive
 pub mod Whole
+pub mod First
+pub mod Separated
+pub mod Declarations
+pub mod Parts
+pub mod Items
+pub mod Headed
+pub mod StatementKinds
+pub mod StatementsExact
+pub mod Sequence
+pub mod ScriptExact

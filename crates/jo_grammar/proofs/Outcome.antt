@@ -318,7 +318,14 @@ join {x} {x'} {y} {y'} p q = ap (λ v. v ++ y) p ∙ ap (λ v. x' ++ v) q
 -- ---- the next token
 
 table : List Terminal
-table = t.End ∷ t.End ∷ t.End ∷ t.End ∷ t.End ∷ t.Punct p.OpenBrace ∷ t.Punct p.CloseBrace ∷ t.Punct p.OpenParen ∷ t.Punct p.CloseParen ∷ t.Punct p.OpenBracket ∷ t.Punct p.CloseBracket ∷ t.Punct p.Dot ∷ t.Punct p.Semicolon ∷ t.Punct p.Comma ∷ t.Punct p.Less ∷ t.Punct p.Greater ∷ t.Punct p.LessEqual ∷ t.Punct p.GreaterEqual ∷ t.Punct p.Same ∷ t.Punct p.NotSame ∷ t.Punct p.Plus ∷ t.Punct p.Minus ∷ t.Punct p.Star ∷ t.Punct p.Percent ∷ t.Punct p.Bang ∷ t.Punct p.AndAnd ∷ t.Punct p.OrOr ∷ t.Punct p.Question ∷ t.Punct p.Colon ∷ t.Punct p.Assign ∷ t.Punct p.PlusAssign ∷ t.Punct p.MinusAssign ∷ t.Keyword kw.Break ∷ t.Keyword kw.Cas ∷ t.Keyword kw.Continue ∷ t.Keyword kw.Delete ∷ t.Keyword kw.Else ∷ t.Keyword kw.False ∷ t.Keyword kw.For ∷ t.Keyword kw.If ∷ t.Keyword kw.In ∷ t.Keyword kw.Let ∷ t.Keyword kw.Null ∷ t.Keyword kw.Print ∷ t.Keyword kw.PrintNames ∷ t.Keyword kw.Shared ∷ t.Keyword kw.True ∷ t.Keyword kw.Undefined ∷ t.Keyword kw.While ∷ []
+table =
+    t.End ∷ t.End ∷ t.End ∷ t.End ∷ t.End
+    ∷ t.Punct p.OpenBrace ∷ t.Punct p.CloseBrace ∷ t.Punct p.OpenParen ∷ t.Punct p.CloseParen ∷ t.Punct p.OpenBracket ∷ t.Punct p.CloseBracket ∷ t.Punct p.Dot ∷ t.Punct p.Semicolon ∷ t.Punct p.Comma
+    ∷ t.Punct p.Less ∷ t.Punct p.Greater ∷ t.Punct p.LessEqual ∷ t.Punct p.GreaterEqual ∷ t.Punct p.Same ∷ t.Punct p.NotSame ∷ t.Punct p.Plus ∷ t.Punct p.Minus ∷ t.Punct p.Star
+    ∷ t.Punct p.Percent ∷ t.Punct p.Bang ∷ t.Punct p.AndAnd ∷ t.Punct p.OrOr ∷ t.Punct p.Question ∷ t.Punct p.Colon ∷ t.Punct p.Assign ∷ t.Punct p.PlusAssign ∷ t.Punct p.MinusAssign
+    ∷ t.Keyword kw.Break ∷ t.Keyword kw.Cas ∷ t.Keyword kw.Continue ∷ t.Keyword kw.Delete ∷ t.Keyword kw.Else ∷ t.Keyword kw.False ∷ t.Keyword kw.For ∷ t.Keyword kw.If ∷ t.Keyword kw.In
+    ∷ t.Keyword kw.Let ∷ t.Keyword kw.Null ∷ t.Keyword kw.Print ∷ t.Keyword kw.PrintNames ∷ t.Keyword kw.Shared ∷ t.Keyword kw.True ∷ t.Keyword kw.Undefined ∷ t.Keyword kw.While
+    ∷ []
 
 token_of : ℕ → Terminal
 unfolding table

@@ -1,9 +1,9 @@
 -- The whole of the tokens of an expression is answered exactly.
-use Rattle.std.proofs.Common.{◌≡◌, ℕ, ◌+◌, ◌<◌, ◌≤◌, inl, Bool, List, [], ◌∷◌, Ok, Err, refl, subst, arith, length}
+use Rattle.std.proofs.Common.{◌≡◌, ℕ, Bool, List, [], ◌∷◌, Ok, Err, refl, subst, arith, length}
 use Rattle.jo_tree.specs.declared.terminal.Terminal.{Terminal}
 use Rattle.jo_tree.specs.declared.terminal.Terminal.TheVariants as t
 use Rattle.jo_tree.specs.Trees.{Tree}
-use Rattle.jo_grammar.specs.Expressions.{Mark, Fits, spelling, IsExpression}
+use Rattle.jo_grammar.specs.Expressions.{Fits, spelling, IsExpression}
 use Rattle.jo_grammar.specs.Refusals.{terms, Within, IsAccepted, Fault, unexpected, too_deep, IsRefused}
 use Rattle.jo_grammar.specs.Read.{Reading, rank, read, whole_end, whole_of, whole}
 use Rattle.jo_grammar.proofs.Outcome.{Any, Outcome, Whole}
