@@ -3,3 +3,4 @@ pub mod Rooms
 pub mod Targets
 pub mod Words
 pub mod Rules
+pub mod ScriptRules
