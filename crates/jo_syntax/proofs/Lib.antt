@@ -4,3 +4,4 @@ pub mod Targets
 pub mod Words
 pub mod Rules
 pub mod ScriptRules
+pub mod ScriptAnswers

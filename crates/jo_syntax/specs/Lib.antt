@@ -1,3 +1,4 @@
 pub mod Terminals
 pub mod Outcomes
+pub mod Refused
 pub mod ScriptOutcomes

@@ -5,9 +5,14 @@ use Rattle.jo_tree.specs.declared.script.Item.{Item}
 use Rattle.jo_tree.specs.declared.script.Item.TheVariants as i
 use Rattle.jo_tree.specs.Trees.{Items}
 use Rattle.jo_tree.specs.ScriptViews.{let_list, statement_tree}
-use Rattle.jo_grammar.specs.Refusals.{unexpected, too_deep}
+use Rattle.jo_grammar.specs.Refusals.{Fault, unexpected, too_deep}
 use Rattle.jo_grammar.specs.ReadStatements as read
 use Rattle.jo_grammar.specs.ReadStatements.{Within, nothing_within, read_statement, a_declaration, a_statement, Answer}
+use Rattle.jo_lex.specs.declared.token.Token.{Token}
+use Rattle.jo_lex.specs.declared.refusal.RefusalKind.TheVariants as k
+use Rattle.jo_lex.specs.declared.refusal.ParseFault.{ParseFault}
+use Rattle.jo_lex.specs.declared.refusal.ParseFault.TheVariants as p
+use Rattle.jo_syntax.specs.Refused.{start_at, refusal_at}
 use Rattle.jo_syntax.specs.declared.stop.Stop.{Stop}
 use Rattle.jo_syntax.specs.declared.stop.Stop.TheVariants as s
 
@@ -30,3 +35,15 @@ FailsAll outcome s.NestedTooDeep new = outcome ≡ Err (too_deep, new)
 abbrev pub ReadsAll : {X : Type 0} → (X → Items) → Answer → Result X Stop → List Terminal → Type 0
 ReadsAll view outcome (Ok x) new = outcome ≡ Ok (view x)
 ReadsAll view outcome (Err f) new = FailsAll outcome f new
+
+-- the fault that a stop stands for, where so many terminals were read
+abbrev pub fault_at : List Token → ℕ → Stop → ParseFault
+fault_at tokens n s.Memory = p.Memory
+fault_at tokens n s.Unexpected = p.Refused record { kind = k.Unexpected; place = start_at tokens n }
+fault_at tokens n s.NestedTooDeep = p.Refused record { kind = k.NestedTooDeep; place = start_at tokens n }
+
+-- the answer with its place
+abbrev pub AnswersAll : {X : Type 0} → (X → Items) → List Token → List Terminal → Answer → Result X ParseFault → Type 0
+AnswersAll view tokens ts outcome (Ok x) = outcome ≡ Ok (view x)
+AnswersAll view tokens ts outcome (Err p.Memory) = Unit {0}
+AnswersAll view tokens ts outcome (Err (p.Refused r)) = (fault : Fault) × (rest : List Terminal) × (outcome ≡ Err (fault, rest)) × (r ≡ refusal_at tokens ts fault rest)

@@ -5,6 +5,12 @@ mod code;
 mod cursor;
 mod keyword;
 mod operator;
+mod parser;
+mod refusal;
+mod script;
+mod read_script;
 mod shape;
 mod stop;
 mod terminals;
+
+pub use read_script::{MOST_OPEN, parse_script};

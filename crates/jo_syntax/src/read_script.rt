@@ -1,0 +1,54 @@
+// Scripts.
+ghost use Rattle.std.specs.Prelude.{IfErr, IfOk, List};
+ghost use Rattle.jo_grammar.specs.ReadStatements.{whole_script};
+ghost use Rattle.jo_grammar.specs.Refusals.{Fault, IsAccepted, IsRefused};
+ghost use Rattle.jo_grammar.specs.Statements.{IsScript};
+ghost use Rattle.jo_syntax.specs.Refused.{Gives, IsFault, Refuses, refusal_at};
+ghost use Rattle.jo_syntax.specs.ScriptOutcomes.{AnswersAll};
+ghost use Rattle.jo_syntax.specs.Terminals.{terminals_of};
+ghost use Rattle.jo_tree.specs.Trees.{Items};
+ghost use Rattle.jo_tree.specs.ScriptViews.{script_tree};
+ghost use Rattle.jo_tree.specs.declared.terminal.Terminal.{Terminal};
+
+use crate::cursor::Cursor;
+use crate::parser::Parser;
+use crate::refusal::fault;
+use crate::terminals::terminals;
+use jo_lex::{ParseFault, Token};
+use jo_tree::{Script, Terminal};
+use jo_value::Texts;
+use std::alloc::Global;
+
+/// How many constructs may be open at most.
+pub const MOST_OPEN: u8 = 64;
+
+fn read(alloc: Global, tokens: &[Token], terminals: &[Terminal]) -> Result<Script, ParseFault>
+    ensures { AnswersAll script_tree tokens.now terminals.now (whole_script MOST_OPEN terminals.now) result }
+{
+    let mut parser = Parser {
+        alloc,
+        tokens: Cursor::new(terminals),
+    };
+    match parser.script(MOST_OPEN) {
+        Ok(script) => Ok(script),
+        Err(stop) => {
+            let read = terminals.len().saturating_sub(parser.tokens.left());
+            Err(fault(stop, tokens, read))
+        }
+    }
+}
+
+/// The only tree that the tokens of a script spell, or the first fault.
+pub fn parse_script(alloc: Global, tokens: &[Token], texts: &Texts) -> Result<Script, ParseFault>
+    ensures ok { IfOk result (λ script. IsAccepted IsScript MOST_OPEN (terminals_of texts.now tokens.now) (script_tree script)) }
+    ensures refused { IfErr result (IsFault IsScript MOST_OPEN tokens.now (terminals_of texts.now tokens.now)) }
+    ensures complete { (tree : Items) → IsAccepted IsScript MOST_OPEN (terminals_of texts.now tokens.now) tree → Gives script_tree tree result }
+    ensures first { (fault : Fault) (rest : List Terminal) → IsRefused IsScript MOST_OPEN fault (terminals_of texts.now tokens.now) rest
+        → Refuses (refusal_at tokens.now (terminals_of texts.now tokens.now) fault rest) result }
+{
+    let terminals = match terminals(alloc, tokens, texts) {
+        Ok(terminals) => terminals,
+        Err(_) => return Err(ParseFault::Memory),
+    };
+    read(alloc, tokens, terminals.as_slice())
+}
