@@ -1,7 +1,7 @@
 -- Expressions are read exactly, at each level and as deep as there is room.
 use Rattle.std.proofs.Common.{◌≡◌, ◌==◌, eqb, inl, inr, Bool, true, false, if◌then◌else◌, zero, suc, ℕ, ◌+◌, ◌-◌, ◌≤◌, ◌<◌, List, sym, subst, refl, arith}
 use Rattle.std.proofs.lemmas.Bool.{eqb-true, eq-eqb}
-use Rattle.jo_tree.specs.declared.terminal.Terminal.{Terminal}
+use Rattle.jo_grammar.specs.declared.terminal.Terminal.{Terminal}
 use Rattle.jo_grammar.specs.Expressions.{IsExpression}
 use Rattle.jo_grammar.specs.Read.{Below, only_member, assignment, chains, at_level, no_room, read}
 use Rattle.jo_grammar.proofs.Outcome.{Any, Outcome}

@@ -1,6 +1,6 @@
 -- A text gets one answer: where it is accepted it is not refused, and it is refused in one way at one place.
 use Rattle.std.proofs.Common.{◌≡◌, ◌⊎◌, inl, inr, ℕ, ◌+◌, ◌≤◌, ◌<◌, List, [], ◌∷◌, ◌++◌, Result, Ok, Err, refl, sym, ◌∙◌, ap, subst, append_assoc, arith, length, length-append}
-use Rattle.jo_tree.specs.declared.terminal.Terminal.{Terminal}
+use Rattle.jo_grammar.specs.declared.terminal.Terminal.{Terminal}
 use Rattle.jo_grammar.specs.Expressions.{Mark}
 use Rattle.jo_grammar.specs.Refusals.{Language, terms, Within, BeginsWithin, Never, OpensTooMany, EachOpensTooMany, IsAccepted, Fault, unexpected, too_deep, IsRefused}
 use Rattle.jo_grammar.proofs.Outcome.{terms-append}

@@ -1,6 +1,6 @@
 -- A language of which the first token is known.
 use Rattle.std.proofs.Common.{◌≡◌, ℕ, List, [], ◌∷◌, ◌++◌, Ok, Err, refl, sym, ◌∙◌, ap}
-use Rattle.jo_tree.specs.declared.terminal.Terminal.{Terminal}
+use Rattle.jo_grammar.specs.declared.terminal.Terminal.{Terminal}
 use Rattle.jo_grammar.specs.Expressions.{Mark}
 use Rattle.jo_grammar.specs.Refusals.{Language, terms, Within, unexpected, too_deep}
 use Rattle.jo_grammar.specs.Read.{Reading, peek}

@@ -2,11 +2,11 @@
 use Rattle.std.proofs.Common.{◌≡◌, ◌≢◌, ◌⊎◌, inl, inr, Bool, true, false, zero, suc, ℕ, ◌+◌, ◌≤◌, List, [], ◌∷◌, ◌++◌, length, Ok, refl, sym, ◌∙◌, ap, subst, append_assoc, arith, length-append}
 use Rattle.jo_lex.specs.declared.punct.Punct.TheVariants as p
 use Rattle.jo_tree.specs.declared.keyword.Keyword.TheVariants as kw
-use Rattle.jo_tree.specs.declared.terminal.Terminal.{Terminal}
-use Rattle.jo_tree.specs.declared.terminal.Terminal.TheVariants as t
+use Rattle.jo_grammar.specs.declared.terminal.Terminal.{Terminal}
+use Rattle.jo_grammar.specs.declared.terminal.Terminal.TheVariants as t
 use Rattle.jo_tree.specs.Trees.{Statement, Items, no_items, declare, perform}
 use Rattle.jo_grammar.specs.Expressions.{Mark, mark, word}
-use Rattle.jo_grammar.specs.Statements.{FitBindings, Closed, FitStatement, FitItems, bindings, declaration, statement, items}
+use Rattle.jo_grammar.specs.Statements.{FitBindings, IsClosed, FitStatement, FitItems, bindings, declaration, statement, items}
 use Rattle.jo_grammar.specs.Refusals.{Language, terms}
 use Rattle.jo_grammar.specs.Read.{Reader, peek, next}
 use Rattle.jo_grammar.specs.ReadStatements.{Item, a_declaration, a_statement, with_item, item_at, block_from}
@@ -16,7 +16,7 @@ use Rattle.jo_grammar.proofs.Declarations.{a_let, some_let, outcome-let}
 
 -- an `else` follows only a closed statement
 abbrev pub Open : Stops Statement
-Open s c = c ≡ t.Keyword kw.Else → Closed s
+Open s c = c ≡ t.Keyword kw.Else → IsClosed s
 
 abbrev pub OpenItem : Stops Item
 OpenItem (a_declaration bs) c = Unit {0}

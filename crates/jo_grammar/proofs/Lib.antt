@@ -20,3 +20,6 @@ pub mod StatementKinds
 pub mod StatementsExact
 pub mod Sequence
 pub mod ScriptExact
+pub mod Edges
+pub mod Worked
+pub mod WorkedRefusals

@@ -6,8 +6,8 @@ use Rattle.jo_tree.specs.declared.keyword.Keyword.{Keyword}
 use Rattle.jo_tree.specs.declared.keyword.Keyword.TheVariants as kw
 use Rattle.jo_tree.specs.declared.operator.UnaryOperator.{UnaryOperator}
 use Rattle.jo_tree.specs.declared.operator.UnaryOperator.TheVariants as u
-use Rattle.jo_tree.specs.declared.terminal.Terminal.{Terminal}
-use Rattle.jo_tree.specs.declared.terminal.Terminal.TheVariants as t
+use Rattle.jo_grammar.specs.declared.terminal.Terminal.{Terminal}
+use Rattle.jo_grammar.specs.declared.terminal.Terminal.TheVariants as t
 use Rattle.jo_tree.specs.declared.word.Name.{Name}
 use Rattle.jo_tree.specs.Trees.{Tree, number, literal, constant, variable, group, object, cas, member, unary, delete, chain, choose, assign, Accesses, no_accesses, field, index}
 use Rattle.jo_grammar.specs.Operators.{unary_token, name_token, is_constant}

@@ -1,8 +1,8 @@
 -- The whole of the tokens of a script is answered exactly.
 use Rattle.std.proofs.Common.{◌≡◌, ◌≢◌, inl, inr, false, zero, suc, ℕ, ◌+◌, ◌≤◌, ◌<◌, List, [], ◌∷◌, ◌++◌, length, Ok, Err, refl, sym, ◌∙◌, ap, subst, arith, length-append}
 use Rattle.jo_tree.specs.declared.keyword.Keyword.TheVariants as kw
-use Rattle.jo_tree.specs.declared.terminal.Terminal.{Terminal}
-use Rattle.jo_tree.specs.declared.terminal.Terminal.TheVariants as t
+use Rattle.jo_grammar.specs.declared.terminal.Terminal.{Terminal}
+use Rattle.jo_grammar.specs.declared.terminal.Terminal.TheVariants as t
 use Rattle.jo_tree.specs.Trees.{Items, no_items}
 use Rattle.jo_grammar.specs.Expressions.{Mark}
 use Rattle.jo_grammar.specs.Statements.{FitItems, items, IsScript}

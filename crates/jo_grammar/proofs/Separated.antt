@@ -1,8 +1,8 @@
 -- Values with a comma between each two, and the token that ends them.
 use Rattle.std.proofs.Common.{◌≡◌, ◌≢◌, ◌⊎◌, inl, inr, if◌then◌else◌, suc, ℕ, ◌≤◌, ◌<◌, List, [], ◌∷◌, ◌++◌, Ok, Err, refl, sym, ◌∙◌, ap, subst, append_assoc, arith, length}
 use Rattle.jo_lex.specs.declared.punct.Punct.TheVariants as p
-use Rattle.jo_tree.specs.declared.terminal.Terminal.{Terminal}
-use Rattle.jo_tree.specs.declared.terminal.Terminal.TheVariants as t
+use Rattle.jo_grammar.specs.declared.terminal.Terminal.{Terminal}
+use Rattle.jo_grammar.specs.declared.terminal.Terminal.TheVariants as t
 use Rattle.jo_grammar.specs.Expressions.{Mark, mark}
 use Rattle.jo_grammar.specs.Refusals.{Language, terms, unexpected}
 use Rattle.jo_grammar.specs.Read.{Reader, and_then, peek, next, code, sees}

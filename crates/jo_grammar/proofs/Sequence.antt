@@ -1,6 +1,6 @@
 -- What is answered for a whole text in two parts, of which the first is read exactly.
 use Rattle.std.proofs.Common.{◌≡◌, ℕ, List, [], ◌∷◌, ◌++◌, Result, Ok, Err, refl, sym, ◌∙◌, ap, subst, append_assoc}
-use Rattle.jo_tree.specs.declared.terminal.Terminal.{Terminal}
+use Rattle.jo_grammar.specs.declared.terminal.Terminal.{Terminal}
 use Rattle.jo_grammar.specs.Expressions.{Mark}
 use Rattle.jo_grammar.specs.Refusals.{Language, terms, BeginsWithin, Never, OpensTooMany, EachOpensTooMany, Fault, unexpected, too_deep, IsRefused}
 use Rattle.jo_grammar.specs.Read.{peek}

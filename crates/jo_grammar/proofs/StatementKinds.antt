@@ -3,11 +3,11 @@ use Rattle.std.proofs.Common.{◌≡◌, ◌≢◌, ◌⊎◌, inl, inr, Bool, t
 use Rattle.jo_lex.specs.declared.punct.Punct.TheVariants as p
 use Rattle.jo_tree.specs.declared.keyword.Keyword.{Keyword}
 use Rattle.jo_tree.specs.declared.keyword.Keyword.TheVariants as kw
-use Rattle.jo_tree.specs.declared.terminal.Terminal.{Terminal}
-use Rattle.jo_tree.specs.declared.terminal.Terminal.TheVariants as t
+use Rattle.jo_grammar.specs.declared.terminal.Terminal.{Terminal}
+use Rattle.jo_grammar.specs.declared.terminal.Terminal.TheVariants as t
 use Rattle.jo_tree.specs.Trees.{Tree, Head, Statement, empty, block, when, either, while, for, break, continue, print, print_names, run, no_items}
 use Rattle.jo_grammar.specs.Expressions.{Mark, mark, word, Fits, spelling, first}
-use Rattle.jo_grammar.specs.Statements.{FitStatement, Closed, optional, head, arguments, bracketed, statement, items}
+use Rattle.jo_grammar.specs.Statements.{FitStatement, IsClosed, optional, head, arguments, bracketed, statement, items}
 use Rattle.jo_grammar.specs.Refusals.{Language, terms}
 use Rattle.jo_grammar.specs.Read.{peek}
 use Rattle.jo_grammar.proofs.Outcome.{bind, nothing, one, mapped, join}
@@ -50,7 +50,7 @@ abbrev pub else_part : Bool → ℕ → Tree → Statement → Language Statemen
 else_part loops d c a = bind (one (t.Keyword kw.Else) 0) (λ _. mapped (either c a) (statement_language loops d))
 
 abbrev pub else_rest : Bool → ℕ → Tree → Statement → Language Statement
-else_rest loops d c a v m = (Closed a × else_part loops d c a v m) ⊎ nothing (when c a) v m
+else_rest loops d c a v m = (IsClosed a × else_part loops d c a v m) ⊎ nothing (when c a) v m
 
 abbrev pub then_part : Bool → ℕ → Tree → Language Statement
 then_part loops d c = bind (statement_language loops d) (λ a. else_rest loops d c a)

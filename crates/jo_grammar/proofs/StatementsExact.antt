@@ -4,11 +4,11 @@ use Rattle.jo_lex.specs.declared.punct.Punct.{Punct}
 use Rattle.jo_lex.specs.declared.punct.Punct.TheVariants as p
 use Rattle.jo_tree.specs.declared.keyword.Keyword.{Keyword}
 use Rattle.jo_tree.specs.declared.keyword.Keyword.TheVariants as kw
-use Rattle.jo_tree.specs.declared.terminal.Terminal.{Terminal}
-use Rattle.jo_tree.specs.declared.terminal.Terminal.TheVariants as t
+use Rattle.jo_grammar.specs.declared.terminal.Terminal.{Terminal}
+use Rattle.jo_grammar.specs.declared.terminal.Terminal.TheVariants as t
 use Rattle.jo_tree.specs.Trees.{Tree, Head, Statement, empty, block, when, either, while, for, break, continue, print, print_names, run, no_items}
 use Rattle.jo_grammar.specs.Expressions.{Mark, mark}
-use Rattle.jo_grammar.specs.Statements.{Closed}
+use Rattle.jo_grammar.specs.Statements.{IsClosed}
 use Rattle.jo_grammar.specs.Refusals.{Language, terms}
 use Rattle.jo_grammar.specs.Read.{Reading, and_then, peek, next, sees, expect, read}
 use Rattle.jo_grammar.specs.ReadStatements.{Within, in_brackets_at, optional_ended, head_at, arguments_after, run_at, print_after, print_names_after, leave_at, else_after, if_after, while_after, for_after, block_after, keyword_statement, punct_statement, statement_at, nothing_within, read_statement}
@@ -72,24 +72,24 @@ some_block loops d = let b = some_items loops d brace no_items in (block b.0, b.
 -- ---- statements behind which an `else` may stand
 
 when-not : (v : Statement) (c : Tree) (a : Statement) (h : Terminal) → v ≡ when c a → Open v h → h ≡ t.Keyword kw.Else → ⊥
-when-not v c a h same s e = subst (λ z. Closed z) same (s e)
+when-not v c a h same s e = subst (λ z. IsClosed z) same (s e)
 
-closed-as : (v s : Statement) → v ≡ s → Closed s → Closed v
-closed-as v s same k = subst (λ z. Closed z) (sym same) k
+closed-as : (v s : Statement) → v ≡ s → IsClosed s → IsClosed v
+closed-as v s same k = subst (λ z. IsClosed z) (sym same) k
 
-print-closed : (d : ℕ) (v : Statement) (m : List Mark) → a_print d v m → Closed v
+print-closed : (d : ℕ) (v : Statement) (m : List Mark) → a_print d v m → IsClosed v
 print-closed d v m (u, x, y, l, (u', x', y', l', (es, x2, y2, k, (u3, x3, y3, l3, (same, none), e3), e2), e'), e) = closed-as v (print es) same tt
 
-names-closed : (d : ℕ) (v : Statement) (m : List Mark) → a_print_names d v m → Closed v
+names-closed : (d : ℕ) (v : Statement) (m : List Mark) → a_print_names d v m → IsClosed v
 names-closed d v m (u, x, y, l, (c, x2, y2, k, (u3, x3, y3, l3, (same, none), e3), e2), e) = closed-as v (print_names c) same tt
 
-block-closed : (loops : Bool) (d : ℕ) (v : Statement) (m : List Mark) → a_block loops d v m → Closed v
+block-closed : (loops : Bool) (d : ℕ) (v : Statement) (m : List Mark) → a_block loops d v m → IsClosed v
 block-closed loops d v m (u, x, y, l, (is, k, same), e) = closed-as v (block is) same tt
 
-leave-closed : (w : Keyword) (s v : Statement) (m : List Mark) → Closed s → a_leave w s v m → Closed v
+leave-closed : (w : Keyword) (s v : Statement) (m : List Mark) → IsClosed s → a_leave w s v m → IsClosed v
 leave-closed w s v m h (u, x, y, l, (u', x', y', l', (same, none), e'), e) = closed-as v s same h
 
-run-closed : (d : ℕ) (v : Statement) (m : List Mark) → a_run d v m → Closed v
+run-closed : (d : ℕ) (v : Statement) (m : List Mark) → a_run d v m → IsClosed v
 run-closed d v m k = let f = run-flat true d v m k in closed-as v (run f.0) f.2 tt
 
 -- ---- a semicolon
@@ -188,7 +188,7 @@ module _ (limit d room : ℕ) (sum : d + room ≡ limit) (within : Within)
     open-kind res to h = outcome-choose (kind loops d c) (statement_language loops d) Open Open Open Open limit ts to (λ _ _ _ _ g. g) (λ v m r k s f. (kind-of v m r k f, s)) res h
 
     -- a kind that does not
-    closed-kind : (res : Reading Statement) → ((v : Statement) (m : List Mark) → kind loops d c v m → statement_language loops d v m) → ((v : Statement) (m : List Mark) → kind loops d c v m → Closed v) → Outcome (kind loops d c) Any Any limit ts res → Outcome (statement_language loops d) Open Open limit ts res
+    closed-kind : (res : Reading Statement) → ((v : Statement) (m : List Mark) → kind loops d c v m → statement_language loops d v m) → ((v : Statement) (m : List Mark) → kind loops d c v m → IsClosed v) → Outcome (kind loops d c) Any Any limit ts res → Outcome (statement_language loops d) Open Open limit ts res
     closed-kind res to closed h = outcome-choose (kind loops d c) (statement_language loops d) Any Open Any Open limit ts to (λ v m _ k _ _. closed v m k) (λ v m r k s f. (kind-of v m r k f, tt)) res h
 
     other-kind : c ≢ t.Punct p.OpenBrace → ((v : Statement) (m : List Mark) → kind loops d c v m → a_run_flat d v m) → Outcome (statement_language loops d) Open Open limit ts (run_at room ts)
@@ -199,7 +199,7 @@ module _ (limit d room : ℕ) (sum : d + room ≡ limit) (within : Within)
         (run_at room ts) (outcome-run limit d room sum ts)
 
   -- `break` or `continue`
-  outcome-leave : (w : Keyword) (s : Statement) → Closed s → ((v : Statement) (m : List Mark) → (loops ≡ true) × a_leave w s v m → statement_language loops d v m)
+  outcome-leave : (w : Keyword) (s : Statement) → IsClosed s → ((v : Statement) (m : List Mark) → (loops ≡ true) × a_leave w s v m → statement_language loops d v m)
       → ((v : Statement) (m : List Mark) → kind loops d (t.Keyword w) v m → (loops ≡ true) × a_leave w s v m) → (ts : List Terminal) → peek ts ≡ t.Keyword w → Outcome (statement_language loops d) Open Open limit ts (leave_at s loops ts)
   unfolding leave_at
   outcome-leave w s closed to from ts here =

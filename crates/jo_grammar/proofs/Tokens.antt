@@ -8,8 +8,8 @@ use Rattle.jo_tree.specs.declared.operator.AssignOperator.{AssignOperator}
 use Rattle.jo_tree.specs.declared.operator.AssignOperator.TheVariants as a
 use Rattle.jo_tree.specs.declared.operator.BinaryOperator.{BinaryOperator}
 use Rattle.jo_tree.specs.declared.operator.BinaryOperator.TheVariants as bin
-use Rattle.jo_tree.specs.declared.terminal.Terminal.{Terminal}
-use Rattle.jo_tree.specs.declared.terminal.Terminal.TheVariants as t
+use Rattle.jo_grammar.specs.declared.terminal.Terminal.{Terminal}
+use Rattle.jo_grammar.specs.declared.terminal.Terminal.TheVariants as t
 use Rattle.jo_grammar.specs.Operators.{binary_token, level_of, assign_token}
 use Rattle.jo_grammar.specs.Read.{punct_rank, rank, binary_of, assign_of}
 

@@ -1,7 +1,7 @@
 -- The whole of the tokens of an expression is answered exactly.
 use Rattle.std.proofs.Common.{◌≡◌, ℕ, Bool, List, [], ◌∷◌, Ok, Err, refl, subst, arith, length}
-use Rattle.jo_tree.specs.declared.terminal.Terminal.{Terminal}
-use Rattle.jo_tree.specs.declared.terminal.Terminal.TheVariants as t
+use Rattle.jo_grammar.specs.declared.terminal.Terminal.{Terminal}
+use Rattle.jo_grammar.specs.declared.terminal.Terminal.TheVariants as t
 use Rattle.jo_tree.specs.Trees.{Tree}
 use Rattle.jo_grammar.specs.Expressions.{Fits, spelling, IsExpression}
 use Rattle.jo_grammar.specs.Refusals.{terms, Within, IsAccepted, Fault, unexpected, too_deep, IsRefused}

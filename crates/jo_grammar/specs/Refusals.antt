@@ -1,6 +1,6 @@
 -- Which texts are accepted, and which are refused where. A text is the tokens of one script, or of one expression.
 use Rattle.std.specs.Prelude.{◌≡◌, ℕ, ◌≤◌, ◌<◌, List, [], ◌∷◌, ◌++◌}
-use Rattle.jo_tree.specs.declared.terminal.Terminal.{Terminal}
+use Rattle.jo_grammar.specs.declared.terminal.Terminal.{Terminal}
 use Rattle.jo_grammar.specs.Expressions.{Mark}
 
 -- which tokens spell a tree

@@ -2,7 +2,7 @@
 use Rattle.std.specs.Prelude.{◌≡◌, ◌≢◌, ℕ, ◌+◌, Bool, true, false, List, [], ◌∷◌, ◌++◌, Option, None, Some}
 use Rattle.jo_lex.specs.declared.punct.Punct.TheVariants as p
 use Rattle.jo_tree.specs.declared.keyword.Keyword.TheVariants as kw
-use Rattle.jo_tree.specs.declared.terminal.Terminal.TheVariants as t
+use Rattle.jo_grammar.specs.declared.terminal.Terminal.TheVariants as t
 use Rattle.jo_tree.specs.Trees.{Tree, Binding, Head, declares, begins, Statement, empty, block, when, either, while, for, break, continue, print, print_names, run, Items, no_items, declare, perform}
 use Rattle.jo_grammar.specs.Expressions.{Mark, mark, word, plain, Fits, spelling, first}
 
@@ -27,12 +27,12 @@ FitHead (declares bs) = FitBindings false true bs
 FitHead (begins e) = FitOptional false e
 
 -- no `if` at its end lacks an `else`, so that an `else` behind it is not its own
-abbrev pub Closed : Statement → Type 0
-Closed (when c s) = ⊥
-Closed (either c a b) = Closed b
-Closed (while c s) = Closed s
-Closed (for h c u s) = Closed s
-Closed _ = Unit {0}
+abbrev pub IsClosed : Statement → Type 0
+IsClosed (when c s) = ⊥
+IsClosed (either c a b) = IsClosed b
+IsClosed (while c s) = IsClosed s
+IsClosed (for h c u s) = IsClosed s
+IsClosed _ = Unit {0}
 
 -- the flag says whether the statement is inside the body of a loop
 abbrev mutual
@@ -40,7 +40,7 @@ abbrev mutual
   FitStatement loops empty = Unit {0}
   FitStatement loops (block ss) = FitItems loops ss
   FitStatement loops (when c s) = Fits true 1 c × FitStatement loops s
-  FitStatement loops (either c a b) = Fits true 1 c × FitStatement loops a × Closed a × FitStatement loops b
+  FitStatement loops (either c a b) = Fits true 1 c × FitStatement loops a × IsClosed a × FitStatement loops b
   FitStatement loops (while c s) = Fits true 1 c × FitStatement true s
   FitStatement loops (for h c u s) = FitHead h × FitOptional true c × FitOptional true u × FitStatement true s
   FitStatement loops break = loops ≡ true

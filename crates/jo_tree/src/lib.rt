@@ -1,11 +1,10 @@
-//! The syntax trees of scripts, and the tokens that the grammar knows.
+//! The syntax trees of scripts.
 #![tactic(auto)]
 
 mod expr;
 mod keyword;
 mod operator;
 mod script;
-mod terminal;
 mod word;
 
 pub use expr::{
@@ -15,5 +14,4 @@ pub use expr::{
 pub use keyword::Keyword;
 pub use operator::{AssignOperator, BinaryOperator, UnaryOperator};
 pub use script::{Binding, Block, For, ForHead, If, Item, Let, Script, Statement, While};
-pub use terminal::Terminal;
 pub use word::{Ident, Literal, Name, PropKey};

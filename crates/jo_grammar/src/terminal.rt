@@ -1,7 +1,7 @@
 // Tokens.
 
-use crate::{Ident, Keyword, Literal};
 use jo_lex::Punct;
+use jo_tree::{Ident, Keyword, Literal};
 use jo_value::TextId;
 
 /// A token as the grammar sees it: where it does not matter, without its place and text.

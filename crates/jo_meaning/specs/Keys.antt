@@ -1,0 +1,100 @@
+-- Keys of properties.
+use Rattle.std.specs.Prelude.{ℕ, pos, ◌+◌, ◌-◌, ◌*◌, ◌==◌, ◌&&◌, nat_le, Bool, not, if◌then◌else◌, List, [], ◌∷◌, codes, slice_get, Option, Some, None, Result, Ok, Err}
+use Rattle.jo_value.specs.declared.value.Key.{Key}
+use Rattle.jo_value.specs.declared.value.Key.TheVariants.{Name, Index}
+use Rattle.jo_value.specs.declared.value.Value.{Value}
+use Rattle.jo_value.specs.declared.value.Value.TheVariants as value
+use Rattle.jo_value.specs.Texts.{Table, number_in}
+use Rattle.jo_tree.specs.declared.keyword.Keyword.{Keyword}
+use Rattle.jo_tree.specs.declared.keyword.Keyword.TheVariants as keyword
+use Rattle.jo_tree.specs.declared.word.Name.{Name as Word}
+use Rattle.jo_tree.specs.declared.word.Name.TheVariants as word
+use Rattle.jo_tree.specs.declared.word.PropKey.{PropKey}
+use Rattle.jo_tree.specs.declared.word.PropKey.TheVariants as prop
+use Rattle.jo_model.specs.declared.call.Outcome.{Outcome}
+use Rattle.jo_model.specs.declared.call.Outcome.TheVariants.{KeyOutside}
+use Rattle.jo_meaning.specs.Values.{is_empty}
+
+-- ---- texts that are array indexes
+
+-- the byte is one of `0` to `9`
+abbrev pub is_digit : ℕ → Bool
+is_digit b = nat_le 48 b && nat_le b 57
+
+-- the number that decimal digits go on to, where others stand before them
+abbrev pub digits_from : ℕ → List ℕ → Option ℕ
+digits_from before [] = Some before
+digits_from before (b ∷ text) = if is_digit b then digits_from (before * 10 + (b - 48)) text else None
+
+-- the number whose decimal digits the text is; the first one is 0 only where it stands alone
+abbrev pub numeral : List ℕ → Option ℕ
+numeral [] = None
+numeral (b ∷ text) = if b == 48 && not (is_empty text) then None else digits_from 0 (b ∷ text)
+
+-- the largest array index
+abbrev pub most_array_index : ℕ
+most_array_index = 4294967294
+
+-- the largest index that an object takes
+abbrev pub most_index : ℕ
+most_index = 1023
+
+-- ---- keys
+
+-- the key with an index, or KeyOutside where the limit is below it
+abbrev pub key_at : ℕ → Result Key Outcome
+key_at n = if nat_le n most_index then Ok (Index n) else Err KeyOutside
+
+-- a text that is an array index is that index, and any other a name
+abbrev pub key_by : ℕ → Option ℕ → Result Key Outcome
+key_by id None = Ok (Name (record { 0 = id }))
+key_by id (Some n) = if nat_le n most_array_index then key_at n else Ok (Name (record { 0 = id }))
+
+-- the key of the text with a number; KeyOutside where the table lacks it
+abbrev pub key_of_text : ℕ → Option (List ℕ) → Result Key Outcome
+key_of_text id None = Err KeyOutside
+key_of_text id (Some text) = key_by id (numeral text)
+
+-- the key that a value is, or KeyOutside; other than ToPropertyKey it takes numbers and texts alone
+abbrev pub key_in : Table → Value → Result Key Outcome
+key_in texts (value.Int (pos n)) = key_at n
+key_in texts (value.Text t) = key_of_text t.0 (slice_get texts t.0)
+key_in texts _ = Err KeyOutside
+
+-- ---- words that name properties
+
+-- the text of a reserved word that the grammar names
+abbrev pub keyword_text : Keyword → List ℕ
+keyword_text keyword.Break = codes "break"
+keyword_text keyword.Cas = codes "cas"
+keyword_text keyword.Continue = codes "continue"
+keyword_text keyword.Delete = codes "delete"
+keyword_text keyword.Else = codes "else"
+keyword_text keyword.False = codes "false"
+keyword_text keyword.For = codes "for"
+keyword_text keyword.If = codes "if"
+keyword_text keyword.In = codes "in"
+keyword_text keyword.Let = codes "let"
+keyword_text keyword.Null = codes "null"
+keyword_text keyword.Print = codes "print"
+keyword_text keyword.PrintNames = codes "printNames"
+keyword_text keyword.Shared = codes "shared"
+keyword_text keyword.True = codes "true"
+keyword_text keyword.Undefined = codes "undefined"
+keyword_text keyword.While = codes "while"
+
+-- the number, in the table, of a word that names a property
+abbrev pub name_number : Table → Word → ℕ
+name_number texts (word.Ident x) = x.text.0
+name_number texts (word.Keyword w) = number_in texts (keyword_text w)
+name_number texts (word.Reserved t) = t.0
+
+-- a word that names a property, as a text
+abbrev pub name_value : Table → Word → Value
+name_value texts name = value.Text (record { 0 = name_number texts name })
+
+-- the key of a property of an object literal, as a value
+abbrev pub prop_value : Table → PropKey → Value
+prop_value texts (prop.Name name) = name_value texts name
+prop_value texts (prop.Text t) = value.Text t.text
+prop_value texts (prop.Number i) = value.Int i
