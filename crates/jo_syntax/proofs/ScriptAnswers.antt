@@ -3,7 +3,7 @@ use Rattle.std.proofs.Common.{◌≡◌, ◌∙◌, sym, ap, refl, List, Result,
 use Rattle.jo_lex.specs.declared.token.Token.{Token}
 use Rattle.jo_lex.specs.declared.refusal.ParseFault.{ParseFault}
 use Rattle.jo_lex.specs.declared.refusal.ParseFault.TheVariants as p
-use Rattle.jo_tree.specs.declared.terminal.Terminal.{Terminal}
+use Rattle.jo_grammar.specs.declared.terminal.Terminal.{Terminal}
 use Rattle.jo_tree.specs.declared.script.Script.{Script}
 use Rattle.jo_tree.specs.Trees.{Items}
 use Rattle.jo_tree.specs.ScriptViews.{script_tree}

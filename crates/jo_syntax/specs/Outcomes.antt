@@ -4,7 +4,7 @@ use Rattle.jo_tree.specs.declared.expr.Prop.{Prop}
 use Rattle.jo_tree.specs.declared.word.PropKey.{PropKey}
 use Rattle.jo_tree.specs.Trees.{Tree, assign}
 use Rattle.jo_tree.specs.Views.{expr_tree}
-use Rattle.jo_tree.specs.declared.terminal.Terminal.{Terminal}
+use Rattle.jo_grammar.specs.declared.terminal.Terminal.{Terminal}
 use Rattle.jo_grammar.specs.Refusals.{unexpected, too_deep}
 use Rattle.jo_grammar.specs.Read.{Reading, Reader, Below, and_then, open_at, peek, assign_of}
 use Rattle.jo_syntax.specs.declared.stop.Stop.{Stop}

@@ -1,6 +1,6 @@
 -- What the methods that read statements and scripts ensure.
 use Rattle.std.specs.Prelude.{◌≡◌, ℕ, zero, suc, List, Result, Ok, Err}
-use Rattle.jo_tree.specs.declared.terminal.Terminal.{Terminal}
+use Rattle.jo_grammar.specs.declared.terminal.Terminal.{Terminal}
 use Rattle.jo_tree.specs.declared.script.Item.{Item}
 use Rattle.jo_tree.specs.declared.script.Item.TheVariants as i
 use Rattle.jo_tree.specs.Trees.{Items}

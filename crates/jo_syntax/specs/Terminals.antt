@@ -8,8 +8,8 @@ use Rattle.jo_lex.specs.declared.token.Token.{Token}
 use Rattle.jo_lex.specs.declared.token.TokenKind.{TokenKind}
 use Rattle.jo_lex.specs.declared.token.TokenKind.TheVariants as kind
 use Rattle.jo_tree.specs.declared.keyword.Keyword.{Keyword}
-use Rattle.jo_tree.specs.declared.terminal.Terminal.{Terminal}
-use Rattle.jo_tree.specs.declared.terminal.Terminal.TheVariants as t
+use Rattle.jo_grammar.specs.declared.terminal.Terminal.{Terminal}
+use Rattle.jo_grammar.specs.declared.terminal.Terminal.TheVariants as t
 use Rattle.jo_syntax.specs.declared.keyword.TheConstants.{KEYWORDS}
 
 -- the keyword whose word has these bytes
@@ -36,10 +36,10 @@ reserved table id = keyword_or_reserved id (keyword_of (text_at table id))
 
 -- a token of the kind at the place
 abbrev pub kind_terminal : Table → ℕ → TokenKind → Terminal
-kind_terminal table place (kind.Word id) = t.Ident record {text = id; place = place; is_proto = is_proto table id}
+kind_terminal table place (kind.Word id) = t.Ident record { text = id; place = place; is_proto = is_proto table id }
 kind_terminal table place (kind.Reserved id) = reserved table id
 kind_terminal table place (kind.Number n) = t.Number n
-kind_terminal table place (kind.Text id) = t.Text record {text = id; is_proto = is_proto table id}
+kind_terminal table place (kind.Text id) = t.Text record { text = id; is_proto = is_proto table id }
 kind_terminal table place (kind.Punct c) = t.Punct c
 kind_terminal table place kind.End = t.End
 

@@ -2,8 +2,9 @@
 ghost use Rattle.std.specs.Prelude.{◌≡◌};
 ghost use Rattle.jo_grammar.specs.Read as spec;
 
+use jo_grammar::Terminal;
 use jo_lex::Punct;
-use jo_tree::{Keyword, Terminal};
+use jo_tree::Keyword;
 
 fn punct_code(punct: Punct) -> u8
     ensures { result ≡ spec.punct_code punct }

@@ -2,13 +2,14 @@
 ghost use Rattle.std.specs.Prelude.{◌≡◌, length};
 ghost use Rattle.jo_grammar.specs.Read as spec;
 ghost use Rattle.jo_syntax.specs.Outcomes.{Reads};
-ghost use Rattle.jo_tree.specs.declared.terminal.Terminal.TheVariants as t;
+ghost use Rattle.jo_grammar.specs.declared.terminal.Terminal.TheVariants as t;
 
 use crate::code::code;
 use crate::operator::{key_of, name_of};
 use crate::stop::Stop;
+use jo_grammar::Terminal;
 use jo_lex::Punct;
-use jo_tree::{Keyword, Name, PropKey, Terminal};
+use jo_tree::{Keyword, Name, PropKey};
 use std::marker::Model;
 
 /// A reader of terminals. At the end the next one is `End`.
@@ -19,7 +20,7 @@ pub(crate) struct Cursor<'a> {
 
 impl<'a> Model for Cursor<'a> {
     ghost use Rattle.std.specs.Prelude.{List};
-    ghost use Rattle.jo_tree.specs.declared.terminal.Terminal.{Terminal};
+    ghost use Rattle.jo_grammar.specs.declared.terminal.Terminal.{Terminal};
 
     ghost Value = { List Terminal };
 

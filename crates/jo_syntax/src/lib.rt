@@ -9,6 +9,8 @@ mod parser;
 mod read_script;
 mod refusal;
 mod script;
+#[cfg(test)]
+mod script_tests;
 mod shape;
 mod stop;
 mod terminals;

@@ -1,12 +1,11 @@
 // What a terminal does in an expression.
 ghost use Rattle.std.specs.Prelude.{◌≡◌, true, false, MatchOption};
 ghost use Rattle.jo_grammar.specs.Read as spec;
-ghost use Rattle.jo_tree.specs.declared.terminal.Terminal.TheVariants as t;
+ghost use Rattle.jo_grammar.specs.declared.terminal.Terminal.TheVariants as t;
 
+use jo_grammar::Terminal;
 use jo_lex::Punct;
-use jo_tree::{
-    AssignOperator, BinaryOperator, Keyword, Literal, Name, PropKey, Terminal, UnaryOperator,
-};
+use jo_tree::{AssignOperator, BinaryOperator, Keyword, Literal, Name, PropKey, UnaryOperator};
 
 fn punct_rank(punct: Punct) -> u8
     ensures { result ≡ spec.punct_rank punct }

@@ -11,10 +11,11 @@ use crate::cursor::Cursor;
 use crate::operator::{assign_of, binary_of, rank, sign_of};
 use crate::shape::{accessed, joined, target_of};
 use crate::stop::Stop;
+use jo_grammar::Terminal;
 use jo_lex::Punct;
 use jo_tree::{
     Access, Assign, Cas, Chain, Choice, Cond, Expr, Keyword, Link, Member, Object, Postfix,
-    Primary, Prop, Target, Terminal, Unary,
+    Primary, Prop, Target, Unary,
 };
 use sqlite_items::{Boxed, Items};
 use std::alloc::Global;

@@ -8,14 +8,15 @@ ghost use Rattle.jo_syntax.specs.ScriptOutcomes.{AnswersAll};
 ghost use Rattle.jo_syntax.specs.Terminals.{terminals_of};
 ghost use Rattle.jo_tree.specs.Trees.{Items};
 ghost use Rattle.jo_tree.specs.ScriptViews.{script_tree};
-ghost use Rattle.jo_tree.specs.declared.terminal.Terminal.{Terminal};
+ghost use Rattle.jo_grammar.specs.declared.terminal.Terminal.{Terminal};
 
 use crate::cursor::Cursor;
 use crate::parser::Parser;
 use crate::refusal::fault;
 use crate::terminals::terminals;
+use jo_grammar::Terminal;
 use jo_lex::{ParseFault, Token};
-use jo_tree::{Script, Terminal};
+use jo_tree::Script;
 use jo_value::Texts;
 use std::alloc::Global;
 

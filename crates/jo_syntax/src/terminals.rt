@@ -3,12 +3,13 @@ ghost use Rattle.std.specs.Prelude.{◌≡◌, IfOk};
 ghost use Rattle.jo_syntax.specs.Terminals as spec;
 
 use crate::keyword::keyword;
+use jo_grammar::Terminal;
 use jo_lex::{Token, TokenKind};
-use jo_tree::{Ident, Literal, Terminal};
+use jo_tree::{Ident, Literal};
 use jo_value::{TextId, Texts};
 use std::alloc::{AllocError, Global};
 
-/// The name that no variable or key of an object literal may have.
+/// The name that is no key of an object literal. Variables may have it.
 pub const PROTO: &str = "__proto__";
 
 fn text(texts: &Texts, id: TextId) -> &[u8]

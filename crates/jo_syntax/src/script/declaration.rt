@@ -6,8 +6,9 @@ ghost use Rattle.jo_tree.specs.ScriptViews.{binding_tree, bindings_list, let_lis
 
 use crate::parser::Parser;
 use crate::stop::Stop;
+use jo_grammar::Terminal;
 use jo_lex::Punct;
-use jo_tree::{Binding, Expr, Ident, Let, Terminal};
+use jo_tree::{Binding, Expr, Ident, Let};
 use sqlite_items::Items;
 
 impl<'a> Parser<'a> {

@@ -29,7 +29,7 @@ impl<'a> Parser<'a> {
 
     /// Arguments behind their bracket.
     #[tactic(auto, using(crate::proofs::ScriptRules::script_reading), unfolding(jo_grammar::specs::ReadStatements::arguments_after))]
-    fn arguments(&mut self, room: u8) -> Result<Items<Expr>, Stop>
+    fn printed(&mut self, room: u8) -> Result<Items<Expr>, Stop>
         ensures { Reads trees_list (spec.arguments_after room self.old.tokens) result self.new.tokens }
     {
         let mut found = Items::new(self.alloc);
@@ -47,9 +47,9 @@ impl<'a> Parser<'a> {
         ensures { Reads statement_tree (spec.print_after room self.old.tokens) result self.new.tokens }
     {
         let inner = self.tokens.enter(Punct::OpenParen, room)?;
-        let arguments = self.arguments(inner)?;
+        let printed = self.printed(inner)?;
         self.tokens.expect(Punct::Semicolon)?;
-        Ok(Statement::Print(arguments))
+        Ok(Statement::Print(printed))
     }
 
     /// A `printNames` behind its word.

@@ -7,8 +7,9 @@ ghost use Rattle.jo_tree.specs.ScriptViews.{statement_tree};
 
 use crate::parser::Parser;
 use crate::stop::Stop;
+use jo_grammar::Terminal;
 use jo_lex::Punct;
-use jo_tree::{Keyword, Statement, Terminal};
+use jo_tree::{Keyword, Statement};
 
 impl<'a> Parser<'a> {
     /// A statement. `loops` says whether it is inside the body of a loop.
