@@ -1,4 +1,5 @@
 pub mod Terminals
 pub mod Outcomes
-pub mod Refused
+pub mod Parsed
 pub mod ScriptOutcomes
+pub mod ParsedScript

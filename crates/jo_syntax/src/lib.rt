@@ -3,11 +3,11 @@
 
 mod code;
 mod cursor;
+mod expression;
 mod keyword;
 mod operator;
 mod parser;
 mod read_script;
-mod refusal;
 mod script;
 #[cfg(test)]
 mod script_tests;
@@ -15,4 +15,7 @@ mod shape;
 mod stop;
 mod terminals;
 
-pub use read_script::{MOST_OPEN, parse_script};
+pub use expression::{MOST_OPEN, parse_expression};
+pub use keyword::KEYWORDS;
+pub use read_script::parse_script;
+pub use terminals::PROTO;

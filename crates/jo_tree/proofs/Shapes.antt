@@ -142,7 +142,7 @@ pub primary_tree-object : (v : Object) → primary_tree (p.Object v) ≡ object_
 unfolding expr_tree
 primary_tree-object v = refl
 
-pub object_tree-of : (ps : List Prop) (comma : Bool) → object_tree (roll-Object record {props = ps; has_comma = comma}) ≡ object (props_list ps) comma
+pub object_tree-of : (ps : List Prop) (comma : Bool) → object_tree (roll-Object record { props = ps; has_comma = comma }) ≡ object (props_list ps) comma
 unfolding expr_tree denote.Hole.Carrier.hidden roll-Object denote.Hole.Carrier.roll
 object_tree-of ps comma = ap (λ v. object v comma) (props-row ps)
 

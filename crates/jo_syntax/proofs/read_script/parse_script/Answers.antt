@@ -3,7 +3,7 @@ use Rattle.jo_grammar.specs.ReadStatements.{whole_script}
 use Rattle.jo_tree.specs.ScriptViews.{script_tree}
 use Rattle.jo_syntax.specs.ScriptOutcomes.{AnswersAll}
 use Rattle.jo_syntax.specs.Terminals.{terminals_of}
-use Rattle.jo_syntax.specs.declared.read_script.TheConstants.{MOST_OPEN}
+use Rattle.jo_syntax.specs.declared.expression.TheConstants.{MOST_OPEN}
 use Rattle.jo_syntax.proofs.ScriptAnswers.{answers-ok, answers-refused, answers-complete, answers-first}
 use Rattle.jo_syntax.proofs.read_script.parse_script.Goals as goal
 

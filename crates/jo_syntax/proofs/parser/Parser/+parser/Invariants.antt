@@ -1,4 +1,4 @@
-use Rattle.std.proofs.Common.{◌≡◌, ◌-◌, ◌≤◌, length, ℕ, ◌+◌, ◌*◌, ◌<◌}
+use Rattle.std.proofs.Common.{◌≡◌, ◌-◌, length, ◌+◌, ◌*◌}
 use Rattle.jo_tree.specs.Trees.{no_accesses, no_links}
 use Rattle.jo_tree.specs.Views.{accesses_list, links_list, props_list}
 use Rattle.jo_grammar.specs.Read as spec
