@@ -4,3 +4,5 @@ pub mod Targets
 pub mod Words
 pub mod Rules
 pub mod Given
+pub mod ScriptRules
+pub mod ScriptAnswers

@@ -1,3 +1,5 @@
 pub mod Terminals
 pub mod Outcomes
 pub mod Parsed
+pub mod ScriptOutcomes
+pub mod ParsedScript

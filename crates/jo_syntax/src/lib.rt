@@ -7,6 +7,10 @@ mod expression;
 mod keyword;
 mod operator;
 mod parser;
+mod read_script;
+mod script;
+#[cfg(test)]
+mod script_tests;
 mod shape;
 mod stop;
 mod terminals;
@@ -15,4 +19,5 @@ mod tests;
 
 pub use expression::{MOST_OPEN, parse_expression};
 pub use keyword::KEYWORDS;
+pub use read_script::parse_script;
 pub use terminals::PROTO;

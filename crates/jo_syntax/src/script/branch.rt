@@ -1,0 +1,82 @@
+// Statements with statements within.
+ghost use Rattle.jo_grammar.specs.ReadStatements as spec;
+ghost use Rattle.jo_grammar.specs.ReadStatements.{read_statement};
+ghost use Rattle.jo_syntax.specs.Outcomes.{Reads};
+ghost use Rattle.jo_tree.specs.ScriptViews.{statement_tree};
+ghost use Rattle.jo_tree.specs.Views.{expr_tree};
+
+use crate::parser::Parser;
+use crate::stop::Stop;
+use jo_lex::Punct;
+use jo_tree::{Expr, For, If, Keyword, Statement, While};
+use sqlite_items::Boxed;
+
+impl<'a> Parser<'a> {
+    /// An `if` behind its word.
+    #[cycle(statement)]
+    #[tactic(auto, using(crate::proofs::ScriptRules::script_reading), unfolding(jo_grammar::specs::ReadStatements::if_after))]
+    pub(crate) fn branch(&mut self, room: u8, loops: bool) -> Result<Statement, Stop>
+        ensures { Reads statement_tree (spec.if_after room (read_statement room) loops self.old.tokens) result self.new.tokens }
+    {
+        let condition = self.in_brackets(room)?;
+        let then = self.statement(room, loops)?;
+        self.otherwise(room, loops, condition, then)
+    }
+
+    /// The rest of an `if` behind its first statement. An `else` belongs to the nearest `if`.
+    #[cycle(statement)]
+    #[tactic(auto, using(crate::proofs::ScriptRules::script_reading), unfolding(jo_grammar::specs::ReadStatements::else_after))]
+    fn otherwise(
+        &mut self,
+        room: u8,
+        loops: bool,
+        condition: Expr,
+        then: Statement,
+    ) -> Result<Statement, Stop>
+        ensures { Reads statement_tree (spec.else_after (read_statement room) loops (expr_tree condition) (statement_tree then) self.old.tokens) result self.new.tokens }
+    {
+        let mut otherwise = None;
+        if self.tokens.sees_keyword(Keyword::Else) {
+            self.tokens.advance();
+            otherwise = Some(self.statement(room, loops)?);
+        }
+        let branch = If {
+            condition,
+            then,
+            otherwise,
+        };
+        Ok(Statement::If(Boxed::new(self.alloc, branch)?))
+    }
+
+    /// A `while` behind its word.
+    #[cycle(statement)]
+    #[tactic(auto, using(crate::proofs::ScriptRules::script_reading), unfolding(jo_grammar::specs::ReadStatements::while_after))]
+    pub(crate) fn while_loop(&mut self, room: u8) -> Result<Statement, Stop>
+        ensures { Reads statement_tree (spec.while_after room (read_statement room) self.old.tokens) result self.new.tokens }
+    {
+        let condition = self.in_brackets(room)?;
+        let body = self.statement(room, true)?;
+        let turns = While { condition, body };
+        Ok(Statement::While(Boxed::new(self.alloc, turns)?))
+    }
+
+    /// A `for` behind its word.
+    #[cycle(statement)]
+    #[tactic(auto, using(crate::proofs::ScriptRules::script_reading), unfolding(jo_grammar::specs::ReadStatements::for_after))]
+    pub(crate) fn for_loop(&mut self, room: u8) -> Result<Statement, Stop>
+        ensures { Reads statement_tree (spec.for_after room (read_statement room) self.old.tokens) result self.new.tokens }
+    {
+        let deep = self.tokens.enter(Punct::OpenParen, room)?;
+        let head = self.head(deep)?;
+        let condition = self.optional(deep, true, Punct::Semicolon)?;
+        let step = self.optional(deep, true, Punct::CloseParen)?;
+        let body = self.statement(room, true)?;
+        let turns = For {
+            head,
+            condition,
+            step,
+            body,
+        };
+        Ok(Statement::For(Boxed::new(self.alloc, turns)?))
+    }
+}
