@@ -14,6 +14,8 @@ mod script_tests;
 mod shape;
 mod stop;
 mod terminals;
+#[cfg(test)]
+mod tests;
 
 pub use expression::{MOST_OPEN, parse_expression};
 pub use keyword::KEYWORDS;
