@@ -1,5 +1,5 @@
 -- What the methods that read statements are proved with.
-use Rattle.std.proofs.Common.{◌≡◌, ℕ, zero, suc, Bool, false, List, [], ◌∷◌, ◌++◌, length, refl, ap, Ok, Err, sym, ◌∙◌}
+use Rattle.std.proofs.Common.{◌≡◌, ℕ, zero, suc, Bool, false, List, [], ◌∷◌, ◌++◌, length, refl, ap, Ok, Err}
 use Rattle.jo_grammar.specs.declared.terminal.Terminal.{Terminal}
 use Rattle.jo_tree.specs.declared.script.Item.{Item}
 use Rattle.jo_tree.specs.declared.script.Item.TheVariants as i
