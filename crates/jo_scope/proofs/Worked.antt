@@ -10,7 +10,7 @@ use Rattle.jo_tree.specs.declared.word.Ident.{Ident}
 use Rattle.jo_tree.specs.declared.word.Name.TheVariants as word
 use Rattle.jo_tree.specs.declared.word.PropKey.TheVariants as prop_key
 use Rattle.jo_tree.specs.Trees.{Tree, number, constant, variable, group, object, cas, member, unary, delete, chain, choose, assign, no_props, prop, no_accesses, field, index, no_links, link, Binding, declares, begins, Statement, empty, block, when, either, while, for, print, print_names, run, Items, no_items, declare, perform}
-use Rattle.jo_scope.specs.Declarations.{undeclared, twice, faults, refusal_of, IsDeclared}
+use Rattle.jo_scope.specs.Declarations.{undeclared, twice, faults, refusal_of}
 
 -- ---- the words of the cases
 

@@ -11,7 +11,7 @@ use Rattle.jo_tree.specs.Trees.{Tree, number, literal, constant, variable, group
 -- ---- faults
 
 pub data ScopeFault : Type 0 where
-  -- no block around the use declares the name, or in the innermost one that does its first binding ends behind the use
+  -- no block around the use declares the name; or the innermost one that does has no binding of it that ends before the use
   undeclared : ScopeFault
   -- the block of the declaration has declared the name before
   twice : ScopeFault

@@ -1,5 +1,5 @@
 -- When a script is sound for a table of texts: what an accepted script has besides its tokens.
-use Rattle.std.specs.Prelude.{ℕ, ◌+◌, ◌≤◌, ◌<◌, ℤ, pos, Bool, false, List, [], ◌∷◌, length, codes, Option, Some, None}
+use Rattle.std.specs.Prelude.{ℕ, ◌+◌, ◌≤◌, ◌<◌, ℤ, pos, false, List, [], ◌∷◌, length, codes, Option, Some, None}
 use Rattle.jo_value.specs.declared.limits.TheConstants.{MOST_NUMBER}
 use Rattle.jo_value.specs.declared.value.TextId.{TextId}
 use Rattle.jo_value.specs.Texts.{Table, number_in}

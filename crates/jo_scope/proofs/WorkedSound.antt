@@ -1,0 +1,105 @@
+-- Worked cases of soundness for a table: each part of it alone, and whole scripts.
+use Rattle.std.proofs.Common.{refl, sym, true≢false, lit<, lit≤, arith}
+use Rattle.std.specs.Prelude.{◌≡◌, ◌≤◌, ◌<◌, pos, negsuc, false, List, [], ◌∷◌, codes}
+use Rattle.jo_value.specs.Texts.{Table}
+use Rattle.jo_tree.specs.declared.keyword.Keyword.TheVariants as keyword
+use Rattle.jo_tree.specs.declared.word.Literal.{Literal}
+use Rattle.jo_tree.specs.declared.word.Name.TheVariants as word
+use Rattle.jo_tree.specs.declared.word.PropKey.TheVariants as prop_key
+use Rattle.jo_tree.specs.Trees.{literal, variable, object, member, no_props, prop, no_accesses, field, index, break, print, Items, no_items}
+use Rattle.jo_scope.specs.Declarations.{Found, undeclared}
+use Rattle.jo_scope.specs.Sound.{most_entries, IsInRange, count_of_items, IsNumbered, IsNamed, IsKeyed, Holds, IsSound}
+use Rattle.jo_scope.proofs.Worked.{ident, a, one, with, show, all, dot}
+
+-- the table of the cases
+abbrev texts : Table
+texts = codes "a" ∷ codes "b" ∷ codes "if" ∷ []
+
+-- ---- numbers
+
+pub zero_is_in_range : IsInRange (pos 0)
+zero_is_in_range = lit≤ tt
+
+pub the_largest_number_is_in_range : IsInRange (pos 9007199254740991)
+the_largest_number_is_in_range = lit≤ tt
+
+pub one_more_is_not : IsInRange (pos 9007199254740992) → ⊥
+one_more_is_not h = let most : 9007199254740992 ≤ 9007199254740991 = h in omega (arith, most)
+
+pub no_negative_number_is : IsInRange (negsuc 0) → ⊥
+no_negative_number_is h = h
+
+pub a_key_is_in_range_too : IsKeyed texts (prop_key.Number (pos 9007199254740992)) → ⊥
+a_key_is_in_range_too h = one_more_is_not h
+
+-- ---- texts and names
+
+-- a variable and a text with the number behind the last
+abbrev past : Literal
+past = record { text = record { 0 = 3 }; is_proto = false }
+
+pub the_last_text_is_in_the_table : IsNumbered texts (record { 0 = 2 })
+the_last_text_is_in_the_table = lit< tt
+
+pub a_variable_past_the_table_is_not : Holds texts (variable (ident 3 0)) → ⊥
+a_variable_past_the_table_is_not h = let less : 3 < 3 = h in omega (arith, less)
+
+pub a_text_past_the_table_is_not : Holds texts (literal past) → ⊥
+a_text_past_the_table_is_not h = let less : 3 < 3 = h in omega (arith, less)
+
+pub a_property_past_the_table_is_not : Holds texts (dot (variable (a 0)) (ident 3 2)) → ⊥
+a_property_past_the_table_is_not h = let less : 3 < 3 = h.2.0 in omega (arith, less)
+
+pub a_key_past_the_table_is_not : Holds texts (object (prop (prop_key.Text past) one no_props) false) → ⊥
+a_key_past_the_table_is_not h = let less : 3 < 3 = h.1.0 in omega (arith, less)
+
+pub a_reserved_word_is_in_the_table_as_its_text : IsNamed texts (word.Keyword keyword.If)
+a_reserved_word_is_in_the_table_as_its_text = lit< tt
+
+pub another_one_is_not : IsNamed texts (word.Keyword keyword.While) → ⊥
+another_one_is_not h = let less : 3 < 3 = h in omega (arith, less)
+
+-- ---- whole scripts
+
+-- nothing, for a table without texts
+pub an_empty_script_is_sound : IsSound [] no_items
+an_empty_script_is_sound = record { grammar = tt; depth = tt; entries = lit≤ tt; parts = tt; names = refl }
+
+-- let a = 1; print(a.if, a["b"]);
+abbrev script : Items
+script =
+    with (a 4) one (all (
+    print (
+    member (variable (a 17)) (field (word.Keyword keyword.If) no_accesses)
+    ∷ member (variable (a 23)) (index (literal (record { text = record { 0 = 1 }; is_proto = false })) no_accesses)
+    ∷ []
+    )
+    ∷ []
+    ))
+
+pub a_script_is_sound_for_a_table_with_its_texts : IsSound texts script
+a_script_is_sound_for_a_table_with_its_texts = record {
+  grammar = ((tt, refl), (((lit≤ tt, tt, refl), ((lit≤ tt, tt, (tt, refl)), tt)), tt));
+  depth = (lit≤ tt, (lit≤ tt, (lit≤ tt, (lit≤ tt, (lit≤ tt, (lit≤ tt, (lit≤ tt, (lit≤ tt, (lit≤ tt, (lit≤ tt, (lit≤ tt, (lit≤ tt, (lit≤ tt, (lit≤ tt, (lit≤ tt, (lit≤ tt, (lit≤ tt, tt)))))))))))))))));
+  entries = lit≤ tt;
+  parts = ((lit≤ tt, (lit< tt, lit≤ tt, tt)), ((lit≤ tt, ((lit< tt, lit≤ tt, (lit< tt, tt)), ((lit< tt, lit≤ tt, (lit< tt, tt)), tt))), tt));
+  names = refl;
+}
+
+pub it_is_not_for_a_table_without_them : IsSound (codes "a" ∷ codes "b" ∷ []) script → ⊥
+it_is_not_for_a_table_without_them h = let less : 2 < 2 = h.parts.1.0.1.0.2.0 in omega (arith, less)
+
+one_fault_is_not_none : (found : Found) (more : List Found) → found ∷ more ≡ [] → ⊥
+one_fault_is_not_none found more same = cc
+
+-- print(a);
+pub a_script_with_a_fault_of_names_is_not_sound : IsSound texts (all (show (a 6) ∷ [])) → ⊥
+a_script_with_a_fault_of_names_is_not_sound h = one_fault_is_not_none (undeclared, 6) [] h.names
+
+-- break;
+pub a_break_outside_loops_is_not_sound : IsSound texts (all (break ∷ [])) → ⊥
+a_break_outside_loops_is_not_sound h = true≢false (sym h.grammar.0)
+
+-- however many texts the table has
+pub too_many_items_are_not_sound : (table : Table) (items : Items) → most_entries < count_of_items items → IsSound table items → ⊥
+too_many_items_are_not_sound table items more h = let most : count_of_items items ≤ 1048576 = h.entries in omega (arith, more, most)
