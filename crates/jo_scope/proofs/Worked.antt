@@ -103,6 +103,10 @@ a_binding_has_ended_where_the_next_one_begins = refl
 pub a_later_binding_of_the_same_let_has_not_ended : faults (declare (set (a 4) (variable (b 8)) ∷ set (b 11) one ∷ []) no_items) ≡ (undeclared, 8) ∷ []
 a_later_binding_of_the_same_let_has_not_ended = refl
 
+-- let a, b; print(b);
+pub each_binding_of_a_let_declares_its_name : faults (declare (bare (a 4) ∷ bare (b 7) ∷ []) (all (show (b 16) ∷ []))) ≡ []
+each_binding_of_a_let_declares_its_name = refl
+
 -- print(a); let a; print(a);
 pub uses_on_both_sides_of_the_let_are_told_apart : faults (then (show (a 6)) (with_bare (a 14) (all (show (a 23) ∷ [])))) ≡ (undeclared, 6) ∷ []
 uses_on_both_sides_of_the_let_are_told_apart = refl
@@ -338,6 +342,10 @@ the_name_of_a_property_is_no_use = refl
 -- let a; a[b].c;
 pub a_key_in_square_brackets_is_a_use : faults (with_bare (a 4) (alone (member (variable (a 7)) (index (variable (b 9)) (field (word.Ident (c 12)) no_accesses))))) ≡ (undeclared, 9) ∷ []
 a_key_in_square_brackets_is_a_use = refl
+
+-- a.b[c][d];
+pub a_key_behind_another_access_is_a_use : faults (alone (member (variable (a 0)) (field (word.Ident (b 2)) (index (variable (c 4)) (index (variable (d 7)) no_accesses))))) ≡ (undeclared, 0) ∷ (undeclared, 4) ∷ (undeclared, 7) ∷ []
+a_key_behind_another_access_is_a_use = refl
 
 -- shared.a;
 pub the_shared_object_is_no_use : faults (alone (dot (constant keyword.Shared) (a 7))) ≡ []

@@ -1,15 +1,18 @@
 -- Worked cases of soundness for a table: each part of it alone, and whole scripts.
 use Rattle.std.proofs.Common.{refl, sym, true≢false, lit<, lit≤, arith}
-use Rattle.std.specs.Prelude.{◌≡◌, ◌≤◌, ◌<◌, pos, negsuc, false, List, [], ◌∷◌, codes}
+use Rattle.std.specs.Prelude.{◌≡◌, ℕ, zero, suc, ◌+◌, ◌≤◌, ◌<◌, pos, negsuc, false, List, [], ◌∷◌, length, codes}
 use Rattle.jo_value.specs.Texts.{Table}
 use Rattle.jo_tree.specs.declared.keyword.Keyword.TheVariants as keyword
 use Rattle.jo_tree.specs.declared.word.Literal.{Literal}
 use Rattle.jo_tree.specs.declared.word.Name.TheVariants as word
 use Rattle.jo_tree.specs.declared.word.PropKey.TheVariants as prop_key
-use Rattle.jo_tree.specs.Trees.{literal, variable, object, member, no_props, prop, no_accesses, field, index, break, print, Items, no_items}
+use Rattle.jo_tree.specs.declared.operator.UnaryOperator.TheVariants.{Minus}
+use Rattle.jo_tree.specs.Trees.{Tree, literal, variable, object, member, unary, chain, Props, no_props, prop, Accesses, no_accesses, field, index, Links, Binding, empty, block, break, print, Items, no_items, declare}
+use Rattle.jo_grammar.specs.Statements.{items}
+use Rattle.jo_grammar.specs.Refusals.{Within}
 use Rattle.jo_scope.specs.Declarations.{Found, undeclared}
-use Rattle.jo_scope.specs.Sound.{most_entries, IsInRange, count_of_items, IsNumbered, IsNamed, IsKeyed, Holds, IsSound}
-use Rattle.jo_scope.proofs.Worked.{ident, a, one, with, show, all, dot}
+use Rattle.jo_scope.specs.Sound.{most_open, most_entries, IsInRange, count_of_props, count_of_accesses, count_of_links, count_of_items, IsNumbered, IsNamed, IsKeyed, Holds, HoldsStatement, HoldItems, IsSound}
+use Rattle.jo_scope.proofs.Worked.{ident, a, one, with, show, all, alone, dot, for_let}
 
 -- the table of the cases
 abbrev texts : Table
@@ -100,6 +103,55 @@ a_script_with_a_fault_of_names_is_not_sound h = one_fault_is_not_none (undeclare
 pub a_break_outside_loops_is_not_sound : IsSound texts (all (break ∷ [])) → ⊥
 a_break_outside_loops_is_not_sound h = true≢false (sym h.grammar.0)
 
--- however many texts the table has
-pub too_many_items_are_not_sound : (table : Table) (items : Items) → most_entries < count_of_items items → IsSound table items → ⊥
-too_many_items_are_not_sound table items more h = let most : count_of_items items ≤ 1048576 = h.entries in omega (arith, more, most)
+-- ---- open constructs
+
+-- so many minus signs before 1
+abbrev minuses : ℕ → Tree
+minuses zero = one
+minuses (suc n) = unary Minus (minuses n)
+
+few : (from n : ℕ) → from + n ≤ 64 → Within most_open (items from (alone (minuses n)))
+few from zero h = (lit≤ tt, (lit≤ tt, tt))
+few from (suc n) h = (omega (arith, h), few (from + 1) n (omega (arith, h)))
+
+many : (from n : ℕ) → from ≤ 64 → 64 < from + n → Within most_open (items from (alone (minuses n))) → ⊥
+many from zero h k w = omega (arith, h, k)
+many from (suc n) h k w = let here : from + 1 ≤ 64 = w.0 in many (from + 1) n here (omega (arith, k)) w.1
+
+pub sixty_four_open_constructs_are_few_enough : Within most_open (items 0 (alone (minuses 64)))
+sixty_four_open_constructs_are_few_enough = few 0 64 (omega arith)
+
+pub sixty_five_are_not : (table : Table) → IsSound table (alone (minuses 65)) → ⊥
+sixty_five_are_not table h = many 0 65 (omega arith) (omega arith) h.depth
+
+-- ---- long lists, for any table
+
+too_long : (n : ℕ) → 1048576 < n → n ≤ most_entries → ⊥
+too_long n more most = let few_enough : n ≤ 1048576 = most in omega (arith, more, few_enough)
+
+pub a_list_of_the_most_entries_is_short_enough : 1048576 ≤ most_entries
+a_list_of_the_most_entries_is_short_enough = lit≤ tt
+
+pub a_script_has_too_many_items : (table : Table) (whole : Items) → 1048576 < count_of_items whole → IsSound table whole → ⊥
+a_script_has_too_many_items table whole more h = too_long _ more h.entries
+
+pub a_block_has_too_many_items : (table : Table) (within : Items) → 1048576 < count_of_items within → HoldsStatement table (block within) → ⊥
+a_block_has_too_many_items table within more h = too_long _ more h.0
+
+pub a_let_has_too_many_bindings : (table : Table) (bindings : List Binding) → 1048576 < length bindings → HoldItems table (declare bindings no_items) → ⊥
+a_let_has_too_many_bindings table bindings more h = too_long _ more h.0.0
+
+pub a_head_has_too_many_bindings : (table : Table) (bindings : List Binding) → 1048576 < length bindings → HoldsStatement table (for_let bindings empty) → ⊥
+a_head_has_too_many_bindings table bindings more h = too_long _ more h.0.0
+
+pub a_print_has_too_many_arguments : (table : Table) (es : List Tree) → 1048576 < length es → HoldsStatement table (print es) → ⊥
+a_print_has_too_many_arguments table es more h = too_long _ more h.0
+
+pub a_literal_has_too_many_properties : (table : Table) (props : Props) → 1048576 < count_of_props props → Holds table (object props false) → ⊥
+a_literal_has_too_many_properties table props more h = too_long _ more h.0
+
+pub an_expression_has_too_many_accesses : (table : Table) (reached : Accesses) → 1048576 < count_of_accesses reached → Holds table (member one reached) → ⊥
+an_expression_has_too_many_accesses table reached more h = too_long _ more h.1
+
+pub a_chain_has_too_many_operands : (table : Table) (links : Links) → 1048576 < count_of_links links → Holds table (chain 7 one links) → ⊥
+a_chain_has_too_many_operands table links more h = too_long _ more h.1
