@@ -1,3 +1,4 @@
 pub mod Worked
 pub mod WorkedSound
 pub mod Order
+pub mod Written

@@ -11,7 +11,7 @@ use Rattle.jo_tree.specs.Trees.{Tree, literal, variable, object, member, unary, 
 use Rattle.jo_grammar.specs.Statements.{items}
 use Rattle.jo_grammar.specs.Refusals.{Within}
 use Rattle.jo_scope.specs.Declarations.{Found, undeclared}
-use Rattle.jo_scope.specs.Sound.{most_open, most_entries, IsInRange, count_of_props, count_of_accesses, count_of_links, count_of_items, IsNumbered, IsNamed, IsKeyed, Holds, HoldsStatement, HoldItems, IsSound}
+use Rattle.jo_scope.specs.Sound.{most_open, most_entries, IsInRange, count_of_props, count_of_accesses, count_of_links, count_of_items, IsNumbered, IsNamed, IsKeyed, Suits, SuitsStatement, SuitItems, IsSound}
 use Rattle.jo_scope.proofs.Worked.{ident, a, one, with, show, all, alone, dot, for_let}
 
 -- the table of the cases
@@ -44,16 +44,16 @@ past = record { text = record { 0 = 3 }; is_proto = false }
 pub the_last_text_is_in_the_table : IsNumbered texts (record { 0 = 2 })
 the_last_text_is_in_the_table = lit< tt
 
-pub a_variable_past_the_table_is_not : Holds texts (variable (ident 3 0)) → ⊥
+pub a_variable_past_the_table_is_not : Suits texts (variable (ident 3 0)) → ⊥
 a_variable_past_the_table_is_not h = let less : 3 < 3 = h in omega (arith, less)
 
-pub a_text_past_the_table_is_not : Holds texts (literal past) → ⊥
+pub a_text_past_the_table_is_not : Suits texts (literal past) → ⊥
 a_text_past_the_table_is_not h = let less : 3 < 3 = h in omega (arith, less)
 
-pub a_property_past_the_table_is_not : Holds texts (dot (variable (a 0)) (ident 3 2)) → ⊥
+pub a_property_past_the_table_is_not : Suits texts (dot (variable (a 0)) (ident 3 2)) → ⊥
 a_property_past_the_table_is_not h = let less : 3 < 3 = h.2.0 in omega (arith, less)
 
-pub a_key_past_the_table_is_not : Holds texts (object (prop (prop_key.Text past) one no_props) false) → ⊥
+pub a_key_past_the_table_is_not : Suits texts (object (prop (prop_key.Text past) one no_props) false) → ⊥
 a_key_past_the_table_is_not h = let less : 3 < 3 = h.1.0 in omega (arith, less)
 
 pub a_reserved_word_is_in_the_table_as_its_text : IsNamed texts (word.Keyword keyword.If)
@@ -135,23 +135,23 @@ a_list_of_the_most_entries_is_short_enough = lit≤ tt
 pub a_script_has_too_many_items : (table : Table) (whole : Items) → 1048576 < count_of_items whole → IsSound table whole → ⊥
 a_script_has_too_many_items table whole more h = too_long _ more h.entries
 
-pub a_block_has_too_many_items : (table : Table) (within : Items) → 1048576 < count_of_items within → HoldsStatement table (block within) → ⊥
+pub a_block_has_too_many_items : (table : Table) (within : Items) → 1048576 < count_of_items within → SuitsStatement table (block within) → ⊥
 a_block_has_too_many_items table within more h = too_long _ more h.0
 
-pub a_let_has_too_many_bindings : (table : Table) (bindings : List Binding) → 1048576 < length bindings → HoldItems table (declare bindings no_items) → ⊥
+pub a_let_has_too_many_bindings : (table : Table) (bindings : List Binding) → 1048576 < length bindings → SuitItems table (declare bindings no_items) → ⊥
 a_let_has_too_many_bindings table bindings more h = too_long _ more h.0.0
 
-pub a_head_has_too_many_bindings : (table : Table) (bindings : List Binding) → 1048576 < length bindings → HoldsStatement table (for_let bindings empty) → ⊥
+pub a_head_has_too_many_bindings : (table : Table) (bindings : List Binding) → 1048576 < length bindings → SuitsStatement table (for_let bindings empty) → ⊥
 a_head_has_too_many_bindings table bindings more h = too_long _ more h.0.0
 
-pub a_print_has_too_many_arguments : (table : Table) (es : List Tree) → 1048576 < length es → HoldsStatement table (print es) → ⊥
+pub a_print_has_too_many_arguments : (table : Table) (es : List Tree) → 1048576 < length es → SuitsStatement table (print es) → ⊥
 a_print_has_too_many_arguments table es more h = too_long _ more h.0
 
-pub a_literal_has_too_many_properties : (table : Table) (props : Props) → 1048576 < count_of_props props → Holds table (object props false) → ⊥
+pub a_literal_has_too_many_properties : (table : Table) (props : Props) → 1048576 < count_of_props props → Suits table (object props false) → ⊥
 a_literal_has_too_many_properties table props more h = too_long _ more h.0
 
-pub an_expression_has_too_many_accesses : (table : Table) (reached : Accesses) → 1048576 < count_of_accesses reached → Holds table (member one reached) → ⊥
+pub an_expression_has_too_many_accesses : (table : Table) (reached : Accesses) → 1048576 < count_of_accesses reached → Suits table (member one reached) → ⊥
 an_expression_has_too_many_accesses table reached more h = too_long _ more h.1
 
-pub a_chain_has_too_many_operands : (table : Table) (links : Links) → 1048576 < count_of_links links → Holds table (chain 7 one links) → ⊥
+pub a_chain_has_too_many_operands : (table : Table) (links : Links) → 1048576 < count_of_links links → Suits table (chain 7 one links) → ⊥
 a_chain_has_too_many_operands table links more h = too_long _ more h.1

@@ -1,4 +1,4 @@
--- When a script is sound for a table of texts: what an accepted script has besides its tokens.
+-- When a script is sound for a table of texts: what an accepted script is, with its table, and what it takes to run one.
 use Rattle.std.specs.Prelude.{ℕ, ◌+◌, ◌≤◌, ◌<◌, ℤ, pos, false, List, [], ◌∷◌, length, codes, Option, Some, None}
 use Rattle.jo_value.specs.declared.limits.TheConstants.{MOST_NUMBER}
 use Rattle.jo_value.specs.declared.value.TextId.{TextId}
@@ -90,86 +90,86 @@ module _ (texts : Table) where
   -- ---- numbers, texts, names and lists of a tree
 
   abbrev mutual
-    -- each number in an expression is in range, each text and name of it is in the table, and no list of it is too long
-    pub Holds : Tree → Type 0
-    Holds (number i) = IsInRange i
-    Holds (literal t) = IsNumbered t.text
-    Holds (constant w) = Unit {0}
-    Holds (variable x) = IsNumbered x.text
-    Holds (group e) = Holds e
-    Holds (object props comma) = (count_of_props props ≤ most_entries) × HoldProps props
-    Holds (cas o k a b) = Holds o × Holds k × Holds a × Holds b
-    Holds (member e accesses) = Holds e × (count_of_accesses accesses ≤ most_entries) × HoldAccesses accesses
-    Holds (unary operator e) = Holds e
-    Holds (delete e) = Holds e
-    Holds (chain level e links) = Holds e × (count_of_links links ≤ most_entries) × HoldLinks links
-    Holds (choose c a b) = Holds c × Holds a × Holds b
-    Holds (assign operator target e) = Holds target × Holds e
+    -- Each number in an expression is in range, each text and name in it is in the table, and no list in it is too long.
+    pub Suits : Tree → Type 0
+    Suits (number i) = IsInRange i
+    Suits (literal t) = IsNumbered t.text
+    Suits (constant w) = Unit {0}
+    Suits (variable x) = IsNumbered x.text
+    Suits (group e) = Suits e
+    Suits (object props comma) = (count_of_props props ≤ most_entries) × SuitProps props
+    Suits (cas o k a b) = Suits o × Suits k × Suits a × Suits b
+    Suits (member e accesses) = Suits e × (count_of_accesses accesses ≤ most_entries) × SuitAccesses accesses
+    Suits (unary operator e) = Suits e
+    Suits (delete e) = Suits e
+    Suits (chain level e links) = Suits e × (count_of_links links ≤ most_entries) × SuitLinks links
+    Suits (choose c a b) = Suits c × Suits a × Suits b
+    Suits (assign operator target e) = Suits target × Suits e
 
-    pub HoldProps : Props → Type 0
-    HoldProps no_props = Unit {0}
-    HoldProps (prop key e props) = IsKeyed key × Holds e × HoldProps props
+    pub SuitProps : Props → Type 0
+    SuitProps no_props = Unit {0}
+    SuitProps (prop key e props) = IsKeyed key × Suits e × SuitProps props
 
-    pub HoldAccesses : Accesses → Type 0
-    HoldAccesses no_accesses = Unit {0}
-    HoldAccesses (field name accesses) = IsNamed name × HoldAccesses accesses
-    HoldAccesses (index e accesses) = Holds e × HoldAccesses accesses
+    pub SuitAccesses : Accesses → Type 0
+    SuitAccesses no_accesses = Unit {0}
+    SuitAccesses (field name accesses) = IsNamed name × SuitAccesses accesses
+    SuitAccesses (index e accesses) = Suits e × SuitAccesses accesses
 
-    pub HoldLinks : Links → Type 0
-    HoldLinks no_links = Unit {0}
-    HoldLinks (link operator e links) = Holds e × HoldLinks links
+    pub SuitLinks : Links → Type 0
+    SuitLinks no_links = Unit {0}
+    SuitLinks (link operator e links) = Suits e × SuitLinks links
 
-  abbrev pub HoldsOptional : Option Tree → Type 0
-  HoldsOptional None = Unit {0}
-  HoldsOptional (Some e) = Holds e
+  abbrev pub SuitsOptional : Option Tree → Type 0
+  SuitsOptional None = Unit {0}
+  SuitsOptional (Some e) = Suits e
 
-  abbrev pub HoldAll : List Tree → Type 0
-  HoldAll [] = Unit {0}
-  HoldAll (e ∷ es) = Holds e × HoldAll es
+  abbrev pub SuitAll : List Tree → Type 0
+  SuitAll [] = Unit {0}
+  SuitAll (e ∷ es) = Suits e × SuitAll es
 
-  abbrev pub HoldBindings : List Binding → Type 0
-  HoldBindings [] = Unit {0}
-  HoldBindings (b ∷ bindings) = IsNumbered b.0.text × HoldsOptional b.1 × HoldBindings bindings
+  abbrev pub SuitBindings : List Binding → Type 0
+  SuitBindings [] = Unit {0}
+  SuitBindings (b ∷ bindings) = IsNumbered b.0.text × SuitsOptional b.1 × SuitBindings bindings
 
   -- a `let`
-  abbrev pub HoldsDeclaration : List Binding → Type 0
-  HoldsDeclaration bindings = (length bindings ≤ most_entries) × HoldBindings bindings
+  abbrev pub SuitsDeclaration : List Binding → Type 0
+  SuitsDeclaration bindings = (length bindings ≤ most_entries) × SuitBindings bindings
 
-  abbrev pub HoldsHead : Head → Type 0
-  HoldsHead (declares bindings) = HoldsDeclaration bindings
-  HoldsHead (begins e) = HoldsOptional e
+  abbrev pub SuitsHead : Head → Type 0
+  SuitsHead (declares bindings) = SuitsDeclaration bindings
+  SuitsHead (begins e) = SuitsOptional e
 
   abbrev mutual
     -- the same of a statement
-    pub HoldsStatement : Statement → Type 0
-    HoldsStatement empty = Unit {0}
-    HoldsStatement (block items) = (count_of_items items ≤ most_entries) × HoldItems items
-    HoldsStatement (when c a) = Holds c × HoldsStatement a
-    HoldsStatement (either c a b) = Holds c × HoldsStatement a × HoldsStatement b
-    HoldsStatement (while c a) = Holds c × HoldsStatement a
-    HoldsStatement (for head c step a) = HoldsHead head × HoldsOptional c × HoldsOptional step × HoldsStatement a
-    HoldsStatement break = Unit {0}
-    HoldsStatement continue = Unit {0}
-    HoldsStatement (print es) = (length es ≤ most_entries) × HoldAll es
-    HoldsStatement (print_names e) = Holds e
-    HoldsStatement (run e) = Holds e
+    pub SuitsStatement : Statement → Type 0
+    SuitsStatement empty = Unit {0}
+    SuitsStatement (block items) = (count_of_items items ≤ most_entries) × SuitItems items
+    SuitsStatement (when c a) = Suits c × SuitsStatement a
+    SuitsStatement (either c a b) = Suits c × SuitsStatement a × SuitsStatement b
+    SuitsStatement (while c a) = Suits c × SuitsStatement a
+    SuitsStatement (for head c step a) = SuitsHead head × SuitsOptional c × SuitsOptional step × SuitsStatement a
+    SuitsStatement break = Unit {0}
+    SuitsStatement continue = Unit {0}
+    SuitsStatement (print es) = (length es ≤ most_entries) × SuitAll es
+    SuitsStatement (print_names e) = Suits e
+    SuitsStatement (run e) = Suits e
 
-    pub HoldItems : Items → Type 0
-    HoldItems no_items = Unit {0}
-    HoldItems (declare bindings items) = HoldsDeclaration bindings × HoldItems items
-    HoldItems (perform statement items) = HoldsStatement statement × HoldItems items
+    pub SuitItems : Items → Type 0
+    SuitItems no_items = Unit {0}
+    SuitItems (declare bindings items) = SuitsDeclaration bindings × SuitItems items
+    SuitItems (perform statement items) = SuitsStatement statement × SuitItems items
 
   -- ---- scripts
 
   -- the script is sound for the table
   pub record IsSound (script : Items) : Type 0 where
-    -- by the grammar it is a script; so `break` and `continue` stand in loops
+    -- by the grammar it is a script, and so `break` and `continue` stand in loops
     pub grammar : FitItems false script
     -- nowhere in it are too many constructs open
     pub depth : Within most_open (items 0 script)
     -- its items are not too many
     pub entries : count_of_items script ≤ most_entries
-    -- and so for all that it consists of
-    pub parts : HoldItems script
-    -- its names are declared as they may be
+    -- its numbers are in range, its texts and names are in the table, and its other lists are not too long
+    pub parts : SuitItems script
+    -- each use of a name means a binding that has ended, and no block declares a name twice
     pub names : IsDeclared script
