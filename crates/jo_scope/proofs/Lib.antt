@@ -2,3 +2,4 @@ pub mod Worked
 pub mod WorkedSound
 pub mod Order
 pub mod Written
+pub mod Once
