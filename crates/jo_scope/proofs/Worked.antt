@@ -107,6 +107,10 @@ a_later_binding_of_the_same_let_has_not_ended = refl
 pub each_binding_of_a_let_declares_its_name : faults (declare (bare (a 4) ∷ bare (b 7) ∷ []) (all (show (b 16) ∷ []))) ≡ []
 each_binding_of_a_let_declares_its_name = refl
 
+-- let a; let b; print(a);
+pub a_binding_that_has_ended_stays_so_behind_another : faults (with_bare (a 4) (with_bare (b 11) (all (show (a 20) ∷ [])))) ≡ []
+a_binding_that_has_ended_stays_so_behind_another = refl
+
 -- print(a); let a; print(a);
 pub uses_on_both_sides_of_the_let_are_told_apart : faults (then (show (a 6)) (with_bare (a 14) (all (show (a 23) ∷ [])))) ≡ (undeclared, 6) ∷ []
 uses_on_both_sides_of_the_let_are_told_apart = refl
@@ -166,6 +170,10 @@ two_lets_of_a_block_declare_it_twice = refl
 -- let a, a;
 pub one_let_declares_it_twice : faults (declare (bare (a 4) ∷ bare (a 7) ∷ []) no_items) ≡ (twice, 7) ∷ []
 one_let_declares_it_twice = refl
+
+-- let a, b, a;
+pub another_binding_between_does_not_part_two : faults (declare (bare (a 4) ∷ bare (b 7) ∷ bare (a 10) ∷ []) no_items) ≡ (twice, 10) ∷ []
+another_binding_between_does_not_part_two = refl
 
 -- let a, a, a;
 pub each_further_declaration_is_a_fault : faults (declare (bare (a 4) ∷ bare (a 7) ∷ bare (a 10) ∷ []) no_items) ≡ (twice, 7) ∷ (twice, 10) ∷ []
