@@ -1,0 +1,5 @@
+pub mod Worked
+pub mod WorkedSound
+pub mod Order
+pub mod Written
+pub mod Once
