@@ -1,0 +1,99 @@
+-- The rule on names is the same where a script is judged and where it means something.
+use Rattle.std.proofs.Common.{refl, sym, true≢false, ap, ◌∙◌, arith}
+use Rattle.std.specs.Prelude.{◌≡◌, ℕ, ◌==◌, ◌≤◌, ◌<◌, Bool, true, false, ◌||◌, if◌then◌else◌, List, [], ◌∷◌, ◌++◌, length, Option, Some}
+use Rattle.jo_tree.specs.declared.keyword.Keyword.{Keyword}
+use Rattle.jo_tree.specs.declared.keyword.Keyword.TheVariants as keyword
+use Rattle.jo_tree.specs.declared.word.Ident.{Ident}
+use Rattle.jo_tree.specs.Trees.{Binding, Head, declares, begins, Items, no_items, declare, perform}
+use Rattle.jo_scope.specs.Declarations as judged
+use Rattle.jo_scope.specs.Declarations.{Scope}
+use Rattle.jo_scope.specs.Sound as sound
+use Rattle.jo_meaning.specs.State.{variable_of}
+use Rattle.jo_meaning.specs.Statements as meant
+use Rattle.jo_meaning.specs.Keys as keys
+
+-- the names that bindings, a block and a head declare
+names_agree : (bindings : List Binding) → judged.names_of bindings ≡ meant.names_of bindings
+names_agree [] = refl
+names_agree (b ∷ bindings) = ap (λ names. b.0.text.0 ∷ names) (names_agree bindings)
+
+declared_in_agrees : (items : Items) → judged.declared_in items ≡ meant.declared_in items
+declared_in_agrees no_items = refl
+declared_in_agrees (declare bindings items) = ap (λ names. names ++ judged.declared_in items) (names_agree bindings) ∙ ap (λ names. meant.names_of bindings ++ names) (declared_in_agrees items)
+declared_in_agrees (perform statement items) = declared_in_agrees items
+
+declared_by_agrees : (head : Head) → judged.declared_by head ≡ meant.declared_by head
+declared_by_agrees (declares bindings) = names_agree bindings
+declared_by_agrees (begins e) = refl
+
+longer : (names outer : List ℕ) → length outer ≤ length (names ++ outer)
+longer [] outer = omega arith
+longer (name ∷ names) outer = omega (arith, longer names outer)
+
+-- the variable of a block's name stands among those of the block
+abbrev IsInner : Option ℕ → List ℕ → List ℕ → Type 0
+IsInner variable names outer = (k : ℕ) × (variable ≡ Some k) × (length outer ≤ k) × (k < length (names ++ outer))
+
+inner_step : (same : Bool) (name : ℕ) (names outer : List ℕ) (x : Ident) → (same || judged.is_among names x.text.0) ≡ true
+    → (judged.is_among names x.text.0 ≡ true → IsInner (variable_of (names ++ outer) x) names outer)
+    → IsInner (if same then Some (length (names ++ outer)) else variable_of (names ++ outer) x) (name ∷ names) outer
+inner_step true name names outer x h ih = (length (names ++ outer), refl, longer names outer, omega arith)
+inner_step false name names outer x h ih =
+    let i = ih h in
+    let below : i.0 < length (names ++ outer) = i.3 in
+    (i.0, i.1, i.2, omega (arith, below))
+
+-- a block that declares the name has the variable that it means
+inner_is_meant : (names outer : List ℕ) (x : Ident) → judged.is_among names x.text.0 ≡ true → IsInner (variable_of (names ++ outer) x) names outer
+inner_is_meant [] outer x h = absurd (true≢false (sym h))
+inner_is_meant (name ∷ names) outer x h = inner_step (name == x.text.0) name names outer x h (inner_is_meant names outer x)
+
+outer_step : (same : Bool) (names outer : List ℕ) (x : Ident) → (same || judged.is_among names x.text.0) ≡ false
+    → (judged.is_among names x.text.0 ≡ false → variable_of (names ++ outer) x ≡ variable_of outer x)
+    → (if same then Some (length (names ++ outer)) else variable_of (names ++ outer) x) ≡ variable_of outer x
+outer_step true names outer x h ih = absurd (true≢false h)
+outer_step false names outer x h ih = ih h
+
+-- and one that does not leaves it to those outside
+outer_is_meant : (names outer : List ℕ) (x : Ident) → judged.is_among names x.text.0 ≡ false → variable_of (names ++ outer) x ≡ variable_of outer x
+outer_is_meant [] outer x h = refl
+outer_is_meant (name ∷ names) outer x h = outer_step (name == x.text.0) names outer x h (outer_is_meant names outer x)
+
+-- the text of a reserved word
+texts_agree : (w : Keyword) → sound.keyword_text w ≡ keys.keyword_text w
+texts_agree keyword.Break = refl
+texts_agree keyword.Cas = refl
+texts_agree keyword.Continue = refl
+texts_agree keyword.Delete = refl
+texts_agree keyword.Else = refl
+texts_agree keyword.False = refl
+texts_agree keyword.For = refl
+texts_agree keyword.If = refl
+texts_agree keyword.In = refl
+texts_agree keyword.Let = refl
+texts_agree keyword.Null = refl
+texts_agree keyword.Print = refl
+texts_agree keyword.PrintNames = refl
+texts_agree keyword.Shared = refl
+texts_agree keyword.True = refl
+texts_agree keyword.Undefined = refl
+texts_agree keyword.While = refl
+
+-- the names of these scopes, as the meaning has them
+abbrev around : List Scope → List ℕ
+around [] = []
+around (scope ∷ outer) = scope.names ++ around outer
+
+abbrev IsMeant : List Scope → Ident → Type 0
+IsMeant scopes x = (k : ℕ) × (variable_of (around scopes) x ≡ Some k)
+
+bound_step : (here : Bool) (scope : Scope) (outer : List Scope) (x : Ident) → judged.is_among scope.names x.text.0 ≡ here
+    → (if here then judged.is_among scope.ended x.text.0 else judged.is_bound outer x.text.0) ≡ true
+    → (judged.is_bound outer x.text.0 ≡ true → IsMeant outer x) → IsMeant (scope ∷ outer) x
+bound_step true scope outer x e h ih = let i = inner_is_meant scope.names (around outer) x e in (i.0, i.1)
+bound_step false scope outer x e h ih = let i = ih h in (i.0, outer_is_meant scope.names (around outer) x e ∙ i.1)
+
+-- a use that is no fault means a variable
+bound_is_meant : (scopes : List Scope) (x : Ident) → judged.is_bound scopes x.text.0 ≡ true → IsMeant scopes x
+bound_is_meant [] x h = absurd (true≢false (sym h))
+bound_is_meant (scope ∷ outer) x h = bound_step (judged.is_among scope.names x.text.0) scope outer x refl h (bound_is_meant outer x)

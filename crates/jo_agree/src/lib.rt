@@ -1,0 +1,2 @@
+//! Agreement.
+#![tactic(auto)]
