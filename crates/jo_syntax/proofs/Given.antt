@@ -1,20 +1,18 @@
--- What is given, by what the reader of the whole answers.
-use Rattle.std.proofs.Common.{◌≡◌, ℕ, Bool, List, [], ◌∷◌, length, Result, Ok, Err, refl, sym, ap, subst, arith, ◌-◌}
-use Rattle.std.specs.Prelude.{IfOk, IfErr}
+-- What is answered for an expression, by what its reader answers.
+use Rattle.std.proofs.Common.{◌≡◌, ℕ, Bool, List, [], ◌∷◌, length, Ok, Err, refl, sym, ap, subst, arith, ◌-◌}
 use Rattle.jo_lex.specs.declared.refusal.ParseFault.{ParseFault}
-use Rattle.jo_lex.specs.declared.refusal.ParseFault.TheVariants.{Memory, Refused}
+use Rattle.jo_lex.specs.declared.refusal.ParseFault.TheVariants.{Refused}
 use Rattle.jo_lex.specs.declared.token.Token.{Token}
-use Rattle.jo_tree.specs.declared.expr.Expr.{Expr}
 use Rattle.jo_tree.specs.Trees.{Tree}
 use Rattle.jo_tree.specs.Views.{expr_tree}
 use Rattle.jo_grammar.specs.declared.terminal.Terminal.{Terminal}
-use Rattle.jo_grammar.specs.Expressions.{IsExpression}
-use Rattle.jo_grammar.specs.Refusals.{Fault, unexpected}
+use Rattle.jo_grammar.specs.Refusals.{Fault, unexpected, too_deep}
 use Rattle.jo_grammar.specs.Read.{read, whole, whole_of}
-use Rattle.jo_grammar.proofs.Accepted.{Answers}
-use Rattle.jo_grammar.proofs.Whole.{whole-answers, whole-accepted, whole-refused}
-use Rattle.jo_syntax.specs.declared.expression.TheConstants.{MOST_OPEN}
-use Rattle.jo_syntax.specs.Parsed.{start_at, kind_of, refusal_of, GivesTree, GivesRefusal, AcceptsExpression, RefusesExpression, IsFaultOf, Gives}
+use Rattle.jo_syntax.specs.Outcomes.{Fails}
+use Rattle.jo_syntax.specs.Parsed.{start_at, kind_of, fault_at, Answered}
+use Rattle.jo_syntax.specs.declared.refusal.TheConstants.{MOST_OPEN}
+use Rattle.jo_syntax.specs.declared.stop.Stop.{Stop}
+use Rattle.jo_syntax.specs.declared.stop.Stop.TheVariants as s
 
 -- ---- the whole, by what the reader of an expression answers
 
@@ -32,42 +30,16 @@ pub whole-stopped : (ins : Bool) (ts r : List Terminal) (f : Fault) → read MOS
 unfolding whole
 whole-stopped ins ts r f e = ap whole_of e
 
--- ---- what is given
+-- ---- what is answered
 
-pub tree-given : (ins : Bool) (tokens : List Token) (ts : List Terminal) (x : Expr) → whole MOST_OPEN ins ts ≡ Ok (expr_tree x) → Gives tokens ts (whole MOST_OPEN ins ts) (Ok x)
-tree-given ins tokens ts x e = subst (λ w. Gives tokens ts w (Ok x)) (sym e) refl
+module _ (ins : Bool) (tokens : List Token) (ts rest : List Terminal) (left : ℕ) (l : left ≡ length rest) where
+  abbrev pub AnswersFault : ParseFault → Type 0
+  AnswersFault k = Answered expr_tree tokens ts (whole MOST_OPEN ins ts) (Err k)
 
-same-refusal : (tokens : List Token) (ts rest : List Terminal) (f : Fault) (left : ℕ) → left ≡ length rest → GivesRefusal (refusal_of tokens ts f rest) (Err (Refused record { kind = kind_of f; place = start_at tokens (length ts - left) }))
-same-refusal tokens ts rest f left e = ap (λ n. record { kind = kind_of f; place = start_at tokens (length ts - n) }) e
+  pub refusal-given : (f : Fault) (k : ParseFault) → whole MOST_OPEN ins ts ≡ Err (f, rest) → k ≡ Refused record { kind = kind_of f; place = start_at tokens (length ts - left) } → AnswersFault k
+  refusal-given f k e h = subst AnswersFault (sym h) (f, rest, e, ap (λ n. record { kind = kind_of f; place = start_at tokens (length ts - n) }) l)
 
-pub refusal-given : (ins : Bool) (tokens : List Token) (ts rest : List Terminal) (f : Fault) (left : ℕ) (k : ParseFault) → whole MOST_OPEN ins ts ≡ Err (f, rest) → left ≡ length rest → k ≡ Refused record { kind = kind_of f; place = start_at tokens (length ts - left) } → Gives tokens ts (whole MOST_OPEN ins ts) (Err k)
-refusal-given ins tokens ts rest f left k e l h =
-    let one : GivesRefusal (refusal_of tokens ts f rest) (Err k) = subst (λ v. GivesRefusal (refusal_of tokens ts f rest) (Err v)) (sym h) (same-refusal tokens ts rest f left l) in
-    subst (λ w. Gives tokens ts w (Err k)) (sym e) one
-
-module _ (ins : Bool) (tokens : List Token) (ts : List Terminal) where
-  ok-of : (w : Result Tree (Fault × List Terminal)) (r : Result Expr ParseFault) → Answers (IsExpression ins 0) MOST_OPEN ts w → Gives tokens ts w r → IfOk r (λ x. AcceptsExpression ins ts (expr_tree x))
-  ok-of (Ok e) (Ok x) h g = subst (λ v. AcceptsExpression ins ts v) (sym g) h
-  ok-of (Ok e) (Err f) h g = tt
-  ok-of (Err f) (Ok x) h g = elim g [ ]
-  ok-of (Err f) (Err k) h g = tt
-
-  fault-of : (w : Result Tree (Fault × List Terminal)) (r : Result Expr ParseFault) → Answers (IsExpression ins 0) MOST_OPEN ts w → Gives tokens ts w r → IfErr r (IsFaultOf ins tokens ts)
-  fault-of (Ok e) (Ok x) h g = tt
-  fault-of (Ok e) (Err Memory) h g = tt
-  fault-of (Ok e) (Err (Refused s)) h g = elim g [ ]
-  fault-of (Err f) (Ok x) h g = tt
-  fault-of (Err f) (Err Memory) h g = tt
-  fault-of (Err f) (Err (Refused s)) h g = (f.0, f.1, h, g)
-
-  pub gives-ok : (r : Result Expr ParseFault) → Gives tokens ts (whole MOST_OPEN ins ts) r → IfOk r (λ x. AcceptsExpression ins ts (expr_tree x))
-  gives-ok r g = ok-of (whole MOST_OPEN ins ts) r (whole-answers MOST_OPEN ins ts) g
-
-  pub gives-fault : (r : Result Expr ParseFault) → Gives tokens ts (whole MOST_OPEN ins ts) r → IfErr r (IsFaultOf ins tokens ts)
-  gives-fault r g = fault-of (whole MOST_OPEN ins ts) r (whole-answers MOST_OPEN ins ts) g
-
-  pub gives-tree : (r : Result Expr ParseFault) → Gives tokens ts (whole MOST_OPEN ins ts) r → (e : Tree) → AcceptsExpression ins ts e → GivesTree e r
-  gives-tree r g e h = subst (λ w. Gives tokens ts w r) (whole-accepted MOST_OPEN ins ts e h) g
-
-  pub gives-refusal : (r : Result Expr ParseFault) → Gives tokens ts (whole MOST_OPEN ins ts) r → (fault : Fault) (rest : List Terminal) → RefusesExpression ins ts fault rest → GivesRefusal (refusal_of tokens ts fault rest) r
-  gives-refusal r g fault rest h = subst (λ w. Gives tokens ts w r) (whole-refused MOST_OPEN ins ts fault rest h) g
+  pub stop-given : (stop : Stop) (k : ParseFault) → Fails (read MOST_OPEN ins 1 ts) stop rest → k ≡ fault_at tokens ts left stop → AnswersFault k
+  stop-given s.Memory k g h = subst AnswersFault (sym h) tt
+  stop-given s.Unexpected k g h = refusal-given unexpected k (whole-stopped ins ts rest unexpected g) h
+  stop-given s.NestedTooDeep k g h = refusal-given too_deep k (whole-stopped ins ts rest too_deep g) h

@@ -5,4 +5,5 @@ pub mod Words
 pub mod Rules
 pub mod Given
 pub mod ScriptRules
-pub mod ScriptAnswers
+pub mod Exactly
+pub mod Keywords

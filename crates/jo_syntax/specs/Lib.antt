@@ -2,4 +2,3 @@ pub mod Terminals
 pub mod Outcomes
 pub mod Parsed
 pub mod ScriptOutcomes
-pub mod ParsedScript

@@ -1,48 +1,23 @@
 // The expression that a list of tokens is.
-ghost use Rattle.std.specs.Prelude.{◌≡◌, ◌-◌, List, length, IfOk, IfErr};
+ghost use Rattle.std.specs.Prelude.{List, IfErr, IfOk};
+ghost use Rattle.jo_grammar.specs.Expressions.{IsExpression};
 ghost use Rattle.jo_grammar.specs.Read.{whole};
-ghost use Rattle.jo_grammar.specs.Refusals.{Fault};
-ghost use Rattle.jo_lex.specs.declared.refusal.ParseFault.TheVariants as fault;
+ghost use Rattle.jo_grammar.specs.Refusals.{Fault, IsAccepted, IsRefused};
 ghost use Rattle.jo_grammar.specs.declared.terminal.Terminal.{Terminal};
-ghost use Rattle.jo_syntax.specs.Parsed.{start_at, refusal_of, GivesTree, GivesRefusal, AcceptsExpression, RefusesExpression, IsFaultOf, Gives};
+ghost use Rattle.jo_syntax.specs.Parsed.{Answered, Gives, IsFault, Refuses, refusal_of};
 ghost use Rattle.jo_syntax.specs.Terminals.{terminals_of};
 ghost use Rattle.jo_tree.specs.Trees.{Tree};
 ghost use Rattle.jo_tree.specs.Views.{expr_tree};
 
 use crate::cursor::Cursor;
 use crate::parser::Parser;
-use crate::stop::Stop;
+use crate::refusal::{MOST_OPEN, refused, stopped};
 use crate::terminals::terminals;
 use jo_grammar::Terminal;
-use jo_lex::{ParseFault, Refusal, RefusalKind, Token};
+use jo_lex::{ParseFault, RefusalKind, Token};
 use jo_tree::Expr;
 use jo_value::Texts;
 use std::alloc::Global;
-
-/// The most constructs that may be open at once.
-pub const MOST_OPEN: u8 = 64;
-
-fn start_at(tokens: &[Token], index: usize) -> u32
-    ensures { result ≡ start_at tokens.now index }
-{
-    match tokens.get(index) {
-        Some(token) => token.start,
-        None => 0,
-    }
-}
-
-// The refusal at the token from which so many terminals are left. There are never more left than there were.
-pub(crate) fn refused(
-    kind: RefusalKind,
-    tokens: &[Token],
-    terminals: &[Terminal],
-    left: usize,
-) -> ParseFault
-    ensures { result ≡ fault.Refused record { kind = kind; place = start_at tokens.now (length terminals.now - left) } }
-{
-    let place = start_at(tokens, terminals.len().saturating_sub(left));
-    ParseFault::Refused(Refusal { kind, place })
-}
 
 // What is answered for the terminals of the tokens.
 fn answer(
@@ -51,7 +26,7 @@ fn answer(
     terminals: &[Terminal],
     ins: bool,
 ) -> Result<Expr, ParseFault>
-    ensures { Gives tokens.now terminals.now (whole MOST_OPEN ins terminals.now) result }
+    ensures { Answered expr_tree tokens.now terminals.now (whole MOST_OPEN ins terminals.now) result }
 {
     let mut parser = Parser {
         alloc,
@@ -65,15 +40,7 @@ fn answer(
             }
             Err(refused(RefusalKind::Unexpected, tokens, terminals, left))
         }
-        Err(Stop::Memory) => Err(ParseFault::Memory),
-        Err(Stop::Unexpected) => {
-            let left = parser.tokens.left();
-            Err(refused(RefusalKind::Unexpected, tokens, terminals, left))
-        }
-        Err(Stop::NestedTooDeep) => {
-            let left = parser.tokens.left();
-            Err(refused(RefusalKind::NestedTooDeep, tokens, terminals, left))
-        }
+        Err(stop) => Err(stopped(stop, tokens, terminals, parser.tokens.left())),
     }
 }
 
@@ -86,11 +53,13 @@ pub fn parse_expression(
     ins: bool,
 ) -> Result<Expr, ParseFault>
     ensures ok { IfOk result (λ expr.
-        AcceptsExpression ins (terminals_of texts.now tokens.now) (expr_tree expr)) }
-    ensures refused { IfErr result (IsFaultOf ins tokens.now (terminals_of texts.now tokens.now)) }
-    ensures complete { (e : Tree) → AcceptsExpression ins (terminals_of texts.now tokens.now) e → GivesTree e result }
-    ensures first { (fault : Fault) (rest : List Terminal) → RefusesExpression ins (terminals_of texts.now tokens.now) fault rest
-        → GivesRefusal (refusal_of tokens.now (terminals_of texts.now tokens.now) fault rest) result }
+        IsAccepted (IsExpression ins 0) MOST_OPEN (terminals_of texts.now tokens.now) (expr_tree expr)) }
+    ensures refused { IfErr result (IsFault (IsExpression ins 0) tokens.now (terminals_of texts.now tokens.now)) }
+    ensures complete { (e : Tree) → IsAccepted (IsExpression ins 0) MOST_OPEN (terminals_of texts.now tokens.now) e
+        → Gives expr_tree e result }
+    ensures first { (fault : Fault) (rest : List Terminal)
+        → IsRefused (IsExpression ins 0) MOST_OPEN fault (terminals_of texts.now tokens.now) rest
+        → Refuses (refusal_of tokens.now (terminals_of texts.now tokens.now) fault rest) result }
 {
     match terminals(alloc, tokens, texts) {
         Ok(found) => answer(alloc, tokens, &found, ins),

@@ -1,4 +1,4 @@
-//! From the tokens of a script to its tree.
+//! From the tokens of a script, or of an expression, to its tree.
 #![tactic(auto)]
 
 mod code;
@@ -8,6 +8,7 @@ mod keyword;
 mod operator;
 mod parser;
 mod read_script;
+mod refusal;
 mod script;
 #[cfg(test)]
 mod script_tests;
@@ -17,7 +18,7 @@ mod terminals;
 #[cfg(test)]
 mod tests;
 
-pub use expression::{MOST_OPEN, parse_expression};
+pub use expression::parse_expression;
 pub use keyword::KEYWORDS;
 pub use read_script::parse_script;
-pub use terminals::PROTO;
+pub use refusal::MOST_OPEN;

@@ -1,4 +1,4 @@
-// The rules of the grammar of expressions, by recursive descent.
+// The rules of the grammar, by recursive descent. Statements are in `script`.
 
 mod chain;
 mod expression;
@@ -9,8 +9,8 @@ mod primary;
 use crate::cursor::Cursor;
 use std::alloc::Global;
 
-/// Reads expressions. `room` and `inner` say how many constructs more may be open, and `ins` whether
-/// `in` may stand outside brackets.
+/// Reads expressions and statements. `room` and `inner` say how many constructs more may be open, `ins` whether
+/// `in` may stand outside brackets, and `loops` whether a loop is around.
 #[derive(Drop)]
 pub(crate) struct Parser<'a> {
     pub(crate) alloc: Global,

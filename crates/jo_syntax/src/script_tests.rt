@@ -36,17 +36,18 @@ fn answer(alloc: Global, script: &str) -> Outcome
     }
 }
 
-// The front so many times, the middle, the back as often, and a semicolon.
+// The front so many times, the middle, the back as often, and the end.
 fn nested(
     alloc: Global,
     front: &str,
     middle: &str,
     back: &str,
     times: usize,
+    end: &str,
 ) -> Result<String, AllocError> {
     let front = front.repeat(alloc, times)?;
     let back = back.repeat(alloc, times)?;
-    format!(in alloc; "{front}{middle}{back};")
+    format!(in alloc; "{front}{middle}{back}{end}")
 }
 
 #[test]
@@ -100,30 +101,31 @@ fn constructs_nest_64_deep(rt: HostRuntime) -> Result<(), Fail> {
             "",
             "",
             64,
+            "",
             Outcome::Refused(RefusalKind::Unexpected, 64),
         ),
-        ("(", "", "", 65, Outcome::Refused(deep, 64)),
-        ("(", "x", ")", 64, Outcome::Accepted),
-        ("{", "", "}", 64, Outcome::Accepted),
-        ("{", "", "}", 65, Outcome::Refused(deep, 64)),
-        ("if(1)", "", "", 63, Outcome::Accepted),
-        ("if(1)", "", "", 65, Outcome::Refused(deep, 317)),
-        ("if(1);else ", "", "", 63, Outcome::Accepted),
-        ("while(1)", "", "", 63, Outcome::Accepted),
-        ("while(1)", "", "", 64, Outcome::Refused(deep, 509)),
-        ("for(;;)", "", "", 63, Outcome::Accepted),
-        ("for(;;)", "", "", 64, Outcome::Refused(deep, 444)),
-        ("x[", "x", "]", 64, Outcome::Accepted),
-        ("x=", "1", "", 64, Outcome::Accepted),
-        ("x=", "1", "", 65, Outcome::Refused(deep, 129)),
-        ("x={a:", "1", "}", 32, Outcome::Accepted),
-        ("1?1:", "1", "", 64, Outcome::Accepted),
-        ("1+(", "1", ")", 32, Outcome::Accepted),
-        ("!", "x", "", 64, Outcome::Accepted),
-        ("cas(1,1,1,", "1", ")", 64, Outcome::Accepted),
+        ("(", "", "", 65, "", Outcome::Refused(deep, 64)),
+        ("(", "x", ")", 64, ";", Outcome::Accepted),
+        ("{", "", "}", 64, ";", Outcome::Accepted),
+        ("{", "", "}", 65, ";", Outcome::Refused(deep, 64)),
+        ("if(1)", "", "", 63, ";", Outcome::Accepted),
+        ("if(1)", "", "", 65, "", Outcome::Refused(deep, 317)),
+        ("if(1);else ", "", "", 63, ";", Outcome::Accepted),
+        ("while(1)", "", "", 63, ";", Outcome::Accepted),
+        ("while(1)", "", "", 64, ";", Outcome::Refused(deep, 509)),
+        ("for(;;)", "", "", 63, ";", Outcome::Accepted),
+        ("for(;;)", "", "", 64, ";", Outcome::Refused(deep, 444)),
+        ("x[", "x", "]", 64, ";", Outcome::Accepted),
+        ("x=", "1", "", 64, ";", Outcome::Accepted),
+        ("x=", "1", "", 65, ";", Outcome::Refused(deep, 129)),
+        ("x={a:", "1", "}", 32, ";", Outcome::Accepted),
+        ("1?1:", "1", "", 64, ";", Outcome::Accepted),
+        ("1+(", "1", ")", 32, ";", Outcome::Accepted),
+        ("!", "x", "", 64, ";", Outcome::Accepted),
+        ("cas(1,1,1,", "1", ")", 64, ";", Outcome::Accepted),
     ];
-    for (front, middle, back, times, want) in rows {
-        let script = nested(rt.alloc(), front, middle, back, times)?;
+    for (front, middle, back, times, end, want) in rows {
+        let script = nested(rt.alloc(), front, middle, back, times, end)?;
         assert!(rt; script.len() < 1000);
         assert_eq!(rt; answer(rt.alloc(), script.as_str()), want, "{script}");
     }

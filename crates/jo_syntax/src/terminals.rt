@@ -9,8 +9,8 @@ use jo_tree::{Ident, Literal};
 use jo_value::{TextId, Texts};
 use std::alloc::{AllocError, Global};
 
-/// The name that is no key of an object literal. Variables may have it.
-pub const PROTO: &str = "__proto__";
+// The name that is no key of an object literal. Variables may have it.
+const PROTO: &str = "__proto__";
 
 fn text(texts: &Texts, id: TextId) -> &[u8]
     ensures { result.now ≡ spec.text_at texts.now id }
