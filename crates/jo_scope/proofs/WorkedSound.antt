@@ -15,7 +15,7 @@ use Rattle.jo_scope.specs.Sound.{most_open, most_entries, IsInRange, count_of_pr
 use Rattle.jo_scope.proofs.Worked.{ident, a, one, with, show, all, alone, dot, for_let}
 
 -- the table of the cases
-abbrev texts : Table
+abbrev pub texts : Table
 texts = codes "a" ∷ codes "b" ∷ codes "if" ∷ []
 
 -- ---- numbers
@@ -38,7 +38,7 @@ a_key_is_in_range_too h = one_more_is_not h
 -- ---- texts and names
 
 -- a variable and a text with the number behind the last
-abbrev past : Literal
+abbrev pub past : Literal
 past = record { text = record { 0 = 3 }; is_proto = false }
 
 pub the_last_text_is_in_the_table : IsNumbered texts (record { 0 = 2 })
