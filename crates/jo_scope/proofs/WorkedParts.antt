@@ -1,7 +1,7 @@
 -- Worked cases of the parts of a tree: each with one flaw, and so not sound for the table, and some without any. The line
 -- above a case is what it is the tree of; places of identifiers are not judged here, and some are 0.
 use Rattle.std.proofs.Common.{refl, lit<, lit≤, arith}
-use Rattle.std.specs.Prelude.{◌≡◌, ◌+◌, ◌≤◌, ◌<◌, pos, false, [], ◌∷◌, Some, None}
+use Rattle.std.specs.Prelude.{◌≡◌, ◌≤◌, ◌<◌, pos, false, [], ◌∷◌, Some, None}
 use Rattle.jo_tree.specs.declared.keyword.Keyword.TheVariants as keyword
 use Rattle.jo_tree.specs.declared.operator.AssignOperator.TheVariants as assign_op
 use Rattle.jo_tree.specs.declared.operator.BinaryOperator.TheVariants as op
