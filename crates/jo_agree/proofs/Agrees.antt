@@ -1,5 +1,5 @@
 -- The rule on names is the same where a script is judged and where it means something.
-use Rattle.std.proofs.Common.{refl, sym, true≢false, ap, ◌∙◌, arith}
+use Rattle.std.proofs.Common.{refl, sym, true≢false, ap, subst, ◌∙◌, arith}
 use Rattle.std.specs.Prelude.{◌≡◌, ℕ, ◌==◌, ◌≤◌, ◌<◌, Bool, true, false, ◌||◌, if◌then◌else◌, List, [], ◌∷◌, ◌++◌, length, Option, Some}
 use Rattle.jo_tree.specs.declared.keyword.Keyword.{Keyword}
 use Rattle.jo_tree.specs.declared.keyword.Keyword.TheVariants as keyword
@@ -11,18 +11,19 @@ use Rattle.jo_scope.specs.Sound as sound
 use Rattle.jo_meaning.specs.State.{variable_of}
 use Rattle.jo_meaning.specs.Statements as meant
 use Rattle.jo_meaning.specs.Keys as keys
+use Rattle.jo_agree.specs.Meant.{around, IsOwn, one_of, IsMeant}
 
 -- the names that bindings, a block and a head declare
-names_agree : (bindings : List Binding) → judged.names_of bindings ≡ meant.names_of bindings
+pub names_agree : (bindings : List Binding) → judged.names_of bindings ≡ meant.names_of bindings
 names_agree [] = refl
 names_agree (b ∷ bindings) = ap (λ names. b.0.text.0 ∷ names) (names_agree bindings)
 
-declared_in_agrees : (items : Items) → judged.declared_in items ≡ meant.declared_in items
+pub declared_in_agrees : (items : Items) → judged.declared_in items ≡ meant.declared_in items
 declared_in_agrees no_items = refl
 declared_in_agrees (declare bindings items) = ap (λ names. names ++ judged.declared_in items) (names_agree bindings) ∙ ap (λ names. meant.names_of bindings ++ names) (declared_in_agrees items)
 declared_in_agrees (perform statement items) = declared_in_agrees items
 
-declared_by_agrees : (head : Head) → judged.declared_by head ≡ meant.declared_by head
+pub declared_by_agrees : (head : Head) → judged.declared_by head ≡ meant.declared_by head
 declared_by_agrees (declares bindings) = names_agree bindings
 declared_by_agrees (begins e) = refl
 
@@ -31,7 +32,7 @@ longer [] outer = omega arith
 longer (name ∷ names) outer = omega (arith, longer names outer)
 
 -- the variable of a block's name stands among those of the block
-abbrev IsInner : Option ℕ → List ℕ → List ℕ → Type 0
+abbrev pub IsInner : Option ℕ → List ℕ → List ℕ → Type 0
 IsInner variable names outer = (k : ℕ) × (variable ≡ Some k) × (length outer ≤ k) × (k < length (names ++ outer))
 
 inner_step : (same : Bool) (name : ℕ) (names outer : List ℕ) (x : Ident) → (same || judged.is_among names x.text.0) ≡ true
@@ -44,7 +45,7 @@ inner_step false name names outer x h ih =
     (i.0, i.1, i.2, omega (arith, below))
 
 -- a block that declares the name has the variable that it means
-inner_is_meant : (names outer : List ℕ) (x : Ident) → judged.is_among names x.text.0 ≡ true → IsInner (variable_of (names ++ outer) x) names outer
+pub inner_is_meant : (names outer : List ℕ) (x : Ident) → judged.is_among names x.text.0 ≡ true → IsInner (variable_of (names ++ outer) x) names outer
 inner_is_meant [] outer x h = absurd (true≢false (sym h))
 inner_is_meant (name ∷ names) outer x h = inner_step (name == x.text.0) name names outer x h (inner_is_meant names outer x)
 
@@ -55,12 +56,12 @@ outer_step true names outer x h ih = absurd (true≢false h)
 outer_step false names outer x h ih = ih h
 
 -- and one that does not leaves it to those outside
-outer_is_meant : (names outer : List ℕ) (x : Ident) → judged.is_among names x.text.0 ≡ false → variable_of (names ++ outer) x ≡ variable_of outer x
+pub outer_is_meant : (names outer : List ℕ) (x : Ident) → judged.is_among names x.text.0 ≡ false → variable_of (names ++ outer) x ≡ variable_of outer x
 outer_is_meant [] outer x h = refl
 outer_is_meant (name ∷ names) outer x h = outer_step (name == x.text.0) names outer x h (outer_is_meant names outer x)
 
 -- the text of a reserved word
-texts_agree : (w : Keyword) → sound.keyword_text w ≡ keys.keyword_text w
+pub texts_agree : (w : Keyword) → sound.keyword_text w ≡ keys.keyword_text w
 texts_agree keyword.Break = refl
 texts_agree keyword.Cas = refl
 texts_agree keyword.Continue = refl
@@ -79,21 +80,21 @@ texts_agree keyword.True = refl
 texts_agree keyword.Undefined = refl
 texts_agree keyword.While = refl
 
--- the names of these scopes, as the meaning has them
-abbrev around : List Scope → List ℕ
-around [] = []
-around (scope ∷ outer) = scope.names ++ around outer
-
-abbrev IsMeant : List Scope → Ident → Type 0
-IsMeant scopes x = (k : ℕ) × (variable_of (around scopes) x ≡ Some k)
+-- a variable, which is that of the innermost scope that declares the name
+abbrev pub HasMeaning : List Scope → Ident → Type 0
+HasMeaning scopes x = (k : ℕ) × (variable_of (around scopes) x ≡ Some k) × IsMeant scopes x k
 
 bound_step : (here : Bool) (scope : Scope) (outer : List Scope) (x : Ident) → judged.is_among scope.names x.text.0 ≡ here
     → (if here then judged.is_among scope.ended x.text.0 else judged.is_bound outer x.text.0) ≡ true
-    → (judged.is_bound outer x.text.0 ≡ true → IsMeant outer x) → IsMeant (scope ∷ outer) x
-bound_step true scope outer x e h ih = let i = inner_is_meant scope.names (around outer) x e in (i.0, i.1)
-bound_step false scope outer x e h ih = let i = ih h in (i.0, outer_is_meant scope.names (around outer) x e ∙ i.1)
+    → (judged.is_bound outer x.text.0 ≡ true → HasMeaning outer x) → HasMeaning (scope ∷ outer) x
+bound_step true scope outer x e h ih =
+    let i = inner_is_meant scope.names (around outer) x e in
+    (i.0, i.1, subst (λ b. one_of b (IsOwn scope outer i.0) (IsMeant outer x i.0)) (sym e) (i.2, i.3))
+bound_step false scope outer x e h ih =
+    let i = ih h in
+    (i.0, outer_is_meant scope.names (around outer) x e ∙ i.1, subst (λ b. one_of b (IsOwn scope outer i.0) (IsMeant outer x i.0)) (sym e) i.2)
 
--- a use that is no fault means a variable
-bound_is_meant : (scopes : List Scope) (x : Ident) → judged.is_bound scopes x.text.0 ≡ true → IsMeant scopes x
+-- a use that is no fault means the variable of the innermost block that declares its name
+pub bound_is_meant : (scopes : List Scope) (x : Ident) → judged.is_bound scopes x.text.0 ≡ true → HasMeaning scopes x
 bound_is_meant [] x h = absurd (true≢false (sym h))
 bound_is_meant (scope ∷ outer) x h = bound_step (judged.is_among scope.names x.text.0) scope outer x refl h (bound_is_meant outer x)

@@ -1,2 +1,2 @@
-//! Agreement.
+//! Judging a script's names and giving it a meaning take the same declarations for each use.
 #![tactic(auto)]
