@@ -1,31 +1,11 @@
 -- The rule on names is the same where a script is judged and where it means something.
-use Rattle.std.proofs.Common.{refl, sym, true≢false, ap, subst, ◌∙◌, arith}
+use Rattle.std.proofs.Common.{refl, sym, true≢false, subst, ◌∙◌, arith}
 use Rattle.std.specs.Prelude.{◌≡◌, ℕ, ◌==◌, ◌≤◌, ◌<◌, Bool, true, false, ◌||◌, if◌then◌else◌, List, [], ◌∷◌, ◌++◌, length, Option, Some}
-use Rattle.jo_tree.specs.declared.keyword.Keyword.{Keyword}
-use Rattle.jo_tree.specs.declared.keyword.Keyword.TheVariants as keyword
 use Rattle.jo_tree.specs.declared.word.Ident.{Ident}
-use Rattle.jo_tree.specs.Trees.{Binding, Head, declares, begins, Items, no_items, declare, perform}
 use Rattle.jo_scope.specs.Declarations as judged
 use Rattle.jo_scope.specs.Declarations.{Scope}
-use Rattle.jo_scope.specs.Sound as sound
 use Rattle.jo_meaning.specs.State.{variable_of}
-use Rattle.jo_meaning.specs.Statements as meant
-use Rattle.jo_meaning.specs.Keys as keys
 use Rattle.jo_agree.specs.Meant.{around, IsOwn, one_of, IsMeant}
-
--- the names that bindings, a block and a head declare
-pub names_agree : (bindings : List Binding) → judged.names_of bindings ≡ meant.names_of bindings
-names_agree [] = refl
-names_agree (b ∷ bindings) = ap (λ names. b.0.text.0 ∷ names) (names_agree bindings)
-
-pub declared_in_agrees : (items : Items) → judged.declared_in items ≡ meant.declared_in items
-declared_in_agrees no_items = refl
-declared_in_agrees (declare bindings items) = ap (λ names. names ++ judged.declared_in items) (names_agree bindings) ∙ ap (λ names. meant.names_of bindings ++ names) (declared_in_agrees items)
-declared_in_agrees (perform statement items) = declared_in_agrees items
-
-pub declared_by_agrees : (head : Head) → judged.declared_by head ≡ meant.declared_by head
-declared_by_agrees (declares bindings) = names_agree bindings
-declared_by_agrees (begins e) = refl
 
 longer : (names outer : List ℕ) → length outer ≤ length (names ++ outer)
 longer [] outer = omega arith
@@ -59,26 +39,6 @@ outer_step false names outer x h ih = ih h
 pub outer_is_meant : (names outer : List ℕ) (x : Ident) → judged.is_among names x.text.0 ≡ false → variable_of (names ++ outer) x ≡ variable_of outer x
 outer_is_meant [] outer x h = refl
 outer_is_meant (name ∷ names) outer x h = outer_step (name == x.text.0) names outer x h (outer_is_meant names outer x)
-
--- the text of a reserved word
-pub texts_agree : (w : Keyword) → sound.keyword_text w ≡ keys.keyword_text w
-texts_agree keyword.Break = refl
-texts_agree keyword.Cas = refl
-texts_agree keyword.Continue = refl
-texts_agree keyword.Delete = refl
-texts_agree keyword.Else = refl
-texts_agree keyword.False = refl
-texts_agree keyword.For = refl
-texts_agree keyword.If = refl
-texts_agree keyword.In = refl
-texts_agree keyword.Let = refl
-texts_agree keyword.Null = refl
-texts_agree keyword.Print = refl
-texts_agree keyword.PrintNames = refl
-texts_agree keyword.Shared = refl
-texts_agree keyword.True = refl
-texts_agree keyword.Undefined = refl
-texts_agree keyword.While = refl
 
 -- a variable, which is that of the innermost scope that declares the name
 abbrev pub HasMeaning : List Scope → Ident → Type 0

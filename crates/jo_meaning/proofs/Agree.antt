@@ -23,9 +23,11 @@ use Rattle.jo_meaning.specs.Runs.{Interaction, Ends, Asks, Takes}
 use Rattle.jo_meaning.specs.State.{State, Next, Scope, ends, unless_fault, unless_refused, asks, made_in, found_in, flag_in, names_in, take_turn, variable_of, value_at, with_value_at}
 use Rattle.jo_meaning.specs.Values.{is_falsy, apply, apply_unary, object_in}
 use Rattle.jo_meaning.specs.Keys.{key_in, name_value, prop_value}
-use Rattle.jo_meaning.specs.Printed.{most_line_bytes, line_of_names, prints}
+use Rattle.jo_value.specs.declared.limits.TheConstants.{MOST_LINE_BYTES}
+use Rattle.jo_meaning.specs.Printed.{line_of_names, prints}
 use Rattle.jo_meaning.specs.Expressions.{Giving, constant_value, Reference, plain, slot, property, on_property, get_value, put_value, deletes, adjusts, assigns, operates, evaluates, refers, reaches, fills, operates_each, evaluates_each}
-use Rattle.jo_meaning.specs.Statements.{declared_in, declared_by, evaluates_or, steps, binds, starts, repeats, loops, loops_for, executes, executes_all}
+use Rattle.jo_tree.specs.Blocks.{declared_in, declared_by}
+use Rattle.jo_meaning.specs.Statements.{evaluates_or, steps, binds, starts, repeats, loops, loops_for, executes, executes_all}
 
 -- two ways to go on agree where the number of turns that are left is one of these
 pub record Agree (P : ℕ → Type 0) (k k' : Next) : Type 0 where
@@ -69,7 +71,7 @@ agree_asks c P k k' h = record { by = λ s le. ap (Asks c s.lines) (fun_ext (λ 
 
 pub agree_line : (line : List ℕ) → KeepsOne (prints line)
 agree_line line P k k' h = record {
-  by = λ s le. agree_room (nat_le (length s.lines + length line + 1) most_line_bytes) s (h.by (record s { lines = s.lines ++ line ++ 10 ∷ [] }) le);
+  by = λ s le. agree_room (nat_le (length s.lines + length line + 1) MOST_LINE_BYTES) s (h.by (record s { lines = s.lines ++ line ++ 10 ∷ [] }) le);
 } where
   agree_room : (b : Bool) (s : State) {x y : Interaction} → x ≡ y → (if b then x else ends outcome.OutputFull s) ≡ (if b then y else ends outcome.OutputFull s)
   agree_room true s e = e

@@ -1,12 +1,12 @@
 -- Keys of properties.
-use Rattle.std.specs.Prelude.{ℕ, pos, ◌+◌, ◌-◌, ◌*◌, ◌==◌, ◌&&◌, nat_le, Bool, not, if◌then◌else◌, List, [], ◌∷◌, codes, slice_get, Option, Some, None, Result, Ok, Err}
+use Rattle.std.specs.Prelude.{ℕ, pos, ◌+◌, ◌-◌, ◌*◌, ◌==◌, ◌&&◌, nat_le, Bool, not, if◌then◌else◌, List, [], ◌∷◌, slice_get, Option, Some, None, Result, Ok, Err}
+use Rattle.jo_value.specs.declared.limits.TheConstants.{MOST_ARRAY_INDEX, MOST_INDEX}
 use Rattle.jo_value.specs.declared.value.Key.{Key}
 use Rattle.jo_value.specs.declared.value.Key.TheVariants.{Name, Index}
 use Rattle.jo_value.specs.declared.value.Value.{Value}
 use Rattle.jo_value.specs.declared.value.Value.TheVariants as value
 use Rattle.jo_value.specs.Texts.{Table, number_in}
-use Rattle.jo_tree.specs.declared.keyword.Keyword.{Keyword}
-use Rattle.jo_tree.specs.declared.keyword.Keyword.TheVariants as keyword
+use Rattle.jo_tree.specs.Words.{keyword_text}
 use Rattle.jo_tree.specs.declared.word.Name.{Name as Word}
 use Rattle.jo_tree.specs.declared.word.Name.TheVariants as word
 use Rattle.jo_tree.specs.declared.word.PropKey.{PropKey}
@@ -31,24 +31,16 @@ abbrev pub numeral : List ℕ → Option ℕ
 numeral [] = None
 numeral (b ∷ text) = if b == 48 && not (is_empty text) then None else digits_from 0 (b ∷ text)
 
--- the largest array index
-abbrev pub most_array_index : ℕ
-most_array_index = 4294967294
-
--- the largest index that an object takes
-abbrev pub most_index : ℕ
-most_index = 1023
-
 -- ---- keys
 
 -- the key with an index, or KeyOutside where the limit is below it
 abbrev pub key_at : ℕ → Result Key Outcome
-key_at n = if nat_le n most_index then Ok (Index n) else Err KeyOutside
+key_at n = if nat_le n MOST_INDEX then Ok (Index n) else Err KeyOutside
 
 -- a text that is an array index is that index, and any other a name
 abbrev pub key_by : ℕ → Option ℕ → Result Key Outcome
 key_by id None = Ok (Name (record { 0 = id }))
-key_by id (Some n) = if nat_le n most_array_index then key_at n else Ok (Name (record { 0 = id }))
+key_by id (Some n) = if nat_le n MOST_ARRAY_INDEX then key_at n else Ok (Name (record { 0 = id }))
 
 -- the key of the text with a number; KeyOutside where the table lacks it
 abbrev pub key_of_text : ℕ → Option (List ℕ) → Result Key Outcome
@@ -62,26 +54,6 @@ key_in texts (value.Text t) = key_of_text t.0 (slice_get texts t.0)
 key_in texts _ = Err KeyOutside
 
 -- ---- words that name properties
-
--- the text of a reserved word that the grammar names
-abbrev pub keyword_text : Keyword → List ℕ
-keyword_text keyword.Break = codes "break"
-keyword_text keyword.Cas = codes "cas"
-keyword_text keyword.Continue = codes "continue"
-keyword_text keyword.Delete = codes "delete"
-keyword_text keyword.Else = codes "else"
-keyword_text keyword.False = codes "false"
-keyword_text keyword.For = codes "for"
-keyword_text keyword.If = codes "if"
-keyword_text keyword.In = codes "in"
-keyword_text keyword.Let = codes "let"
-keyword_text keyword.Null = codes "null"
-keyword_text keyword.Print = codes "print"
-keyword_text keyword.PrintNames = codes "printNames"
-keyword_text keyword.Shared = codes "shared"
-keyword_text keyword.True = codes "true"
-keyword_text keyword.Undefined = codes "undefined"
-keyword_text keyword.While = codes "while"
 
 -- the number, in the table, of a word that names a property
 abbrev pub name_number : Table → Word → ℕ

@@ -2,12 +2,13 @@
 use Rattle.std.specs.Prelude.{ℕ, List, []}
 use Rattle.jo_value.specs.declared.value.Value.TheVariants.{Undefined}
 use Rattle.jo_value.specs.Texts.{Table}
+use Rattle.jo_tree.specs.Blocks.{declared_in}
 use Rattle.jo_tree.specs.Trees.{Items}
 use Rattle.jo_model.specs.declared.call.Outcome.TheVariants.{Done}
 use Rattle.jo_model.specs.declared.call.Reply.{Reply}
 use Rattle.jo_meaning.specs.Runs.{Interaction, Run, follow}
 use Rattle.jo_meaning.specs.State.{State, ends}
-use Rattle.jo_meaning.specs.Statements.{declared_in, executes_all}
+use Rattle.jo_meaning.specs.Statements.{executes_all}
 
 -- before a script begins: so many turns, no variable has a value, and nothing is printed
 abbrev pub state_at_start : ℕ → State

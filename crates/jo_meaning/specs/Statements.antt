@@ -3,6 +3,7 @@ use Rattle.std.specs.Prelude.{true, ℕ, zero, suc, if◌then◌else◌, List, [
 use Rattle.jo_value.specs.declared.value.Value.{Value}
 use Rattle.jo_value.specs.declared.value.Value.TheVariants as value
 use Rattle.jo_value.specs.Texts.{Table}
+use Rattle.jo_tree.specs.Blocks.{declared_in, declared_by}
 use Rattle.jo_tree.specs.Trees.{Tree, Binding, Head, declares, begins, Statement, empty, block, when, either, while, for, break, continue, print, print_names, run, Items, no_items, declare, perform}
 use Rattle.jo_model.specs.declared.call.Call.TheVariants as call
 use Rattle.jo_model.specs.declared.call.Outcome.TheVariants.{TurnsSpent}
@@ -11,23 +12,6 @@ use Rattle.jo_meaning.specs.State.{Next, Scope, ends, unless_fault, asks, names_
 use Rattle.jo_meaning.specs.Values.{is_falsy, object_in}
 use Rattle.jo_meaning.specs.Printed.{line_of_names, prints}
 use Rattle.jo_meaning.specs.Expressions.{Giving, slot, put_value, evaluates, evaluates_each}
-
--- ---- declared names
-
-abbrev pub names_of : List Binding → Scope
-names_of [] = []
-names_of (b ∷ bindings) = b.0.text.0 ∷ names_of bindings
-
--- the names that a block declares itself, anywhere
-abbrev pub declared_in : Items → Scope
-declared_in no_items = []
-declared_in (declare bindings items) = names_of bindings ++ declared_in items
-declared_in (perform statement items) = declared_in items
-
--- those that the head of a `for` declares
-abbrev pub declared_by : Head → Scope
-declared_by (declares bindings) = names_of bindings
-declared_by (begins e) = []
 
 module _ (texts : Table) where
   -- the value of an expression, or another value where none is written

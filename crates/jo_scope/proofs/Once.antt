@@ -3,7 +3,8 @@ use Rattle.std.proofs.Common.{refl}
 use Rattle.std.specs.Prelude.{◌≡◌, ℕ, Bool, true, false, if◌then◌else◌, List, [], ◌∷◌, ◌++◌}
 use Rattle.jo_tree.specs.declared.word.Ident.{Ident}
 use Rattle.jo_tree.specs.Trees.{Binding, declares, Items, no_items, declare, perform}
-use Rattle.jo_scope.specs.Declarations.{twice, Found, uses_of_optional, names_of, declared_in, Scope, at_beginning, behind, behind_all, is_among, faults_of_uses, faults_of_name, faults_of_bindings, faults_of_head, faults_of, faults_of_items}
+use Rattle.jo_tree.specs.Blocks.{names_of, declared_in}
+use Rattle.jo_scope.specs.Declarations.{twice, Found, uses_of_optional, Scope, at_beginning, behind, behind_all, is_among, faults_of_uses, faults_of_name, faults_of_bindings, faults_of_head, faults_of, faults_of_items}
 
 -- none of the names is among those before, nor there again
 abbrev pub AreNew : List ℕ → List ℕ → Type 0

@@ -2,7 +2,8 @@
 use Rattle.std.specs.Prelude.{ℕ, ◌<◌, Bool, true, false, if◌then◌else◌, List, [], ◌∷◌, ◌++◌}
 use Rattle.jo_tree.specs.declared.word.Ident.{Ident}
 use Rattle.jo_tree.specs.Trees.{Binding, Head, declares, begins, Statement, empty, block, when, either, while, for, break, continue, print, print_names, run, Items, no_items, declare, perform}
-use Rattle.jo_scope.specs.Declarations.{ScopeFault, undeclared, twice, Found, uses_of, uses_of_optional, uses_of_all, names_of, declared_in, declared_by, Scope, at_beginning, at_end, behind, behind_all, is_among, is_bound, faults_of_uses, faults_of_bindings, faults_of_head, faults_of, faults_of_items, faults}
+use Rattle.jo_tree.specs.Blocks.{names_of, declared_in, declared_by}
+use Rattle.jo_scope.specs.Declarations.{ScopeFault, undeclared, twice, Found, uses_of, uses_of_optional, uses_of_all, Scope, at_beginning, at_end, behind, behind_all, is_among, is_bound, faults_of_uses, faults_of_bindings, faults_of_head, faults_of, faults_of_items, faults}
 
 -- ---- the identifiers of a script, in uses and declarations, in the order in which they are written
 

@@ -11,7 +11,8 @@ use Rattle.jo_tree.specs.Trees.{Tree, literal, variable, object, member, unary, 
 use Rattle.jo_grammar.specs.Statements.{items}
 use Rattle.jo_grammar.specs.Refusals.{Within}
 use Rattle.jo_scope.specs.Declarations.{Found, undeclared}
-use Rattle.jo_scope.specs.Sound.{most_open, most_entries, IsInRange, count_of_props, count_of_accesses, count_of_links, count_of_items, IsNumbered, IsNamed, IsKeyed, Suits, SuitsStatement, SuitItems, IsSound}
+use Rattle.jo_value.specs.declared.limits.TheConstants.{MOST_INPUT, MOST_OPEN}
+use Rattle.jo_scope.specs.Sound.{IsInRange, count_of_props, count_of_accesses, count_of_links, count_of_items, IsNumbered, IsNamed, IsKeyed, Suits, SuitsStatement, SuitItems, IsSound}
 use Rattle.jo_scope.proofs.Worked.{ident, a, one, with, show, all, alone, dot, for_let}
 
 -- the table of the cases
@@ -110,15 +111,15 @@ abbrev minuses : ℕ → Tree
 minuses zero = one
 minuses (suc n) = unary Minus (minuses n)
 
-few : (from n : ℕ) → from + n ≤ 64 → Within most_open (items from (alone (minuses n)))
+few : (from n : ℕ) → from + n ≤ 64 → Within MOST_OPEN (items from (alone (minuses n)))
 few from zero h = (lit≤ tt, (lit≤ tt, tt))
 few from (suc n) h = (omega (arith, h), few (from + 1) n (omega (arith, h)))
 
-many : (from n : ℕ) → from ≤ 64 → 64 < from + n → Within most_open (items from (alone (minuses n))) → ⊥
+many : (from n : ℕ) → from ≤ 64 → 64 < from + n → Within MOST_OPEN (items from (alone (minuses n))) → ⊥
 many from zero h k w = omega (arith, h, k)
 many from (suc n) h k w = let here : from + 1 ≤ 64 = w.0 in many (from + 1) n here (omega (arith, k)) w.1
 
-pub sixty_four_open_constructs_are_few_enough : Within most_open (items 0 (alone (minuses 64)))
+pub sixty_four_open_constructs_are_few_enough : Within MOST_OPEN (items 0 (alone (minuses 64)))
 sixty_four_open_constructs_are_few_enough = few 0 64 (omega arith)
 
 pub sixty_five_are_not : (table : Table) → IsSound table (alone (minuses 65)) → ⊥
@@ -126,11 +127,11 @@ sixty_five_are_not table h = many 0 65 (omega arith) (omega arith) h.depth
 
 -- ---- long lists, for any table
 
-too_long : (n : ℕ) → 1048576 < n → n ≤ most_entries → ⊥
+too_long : (n : ℕ) → 1048576 < n → n ≤ MOST_INPUT → ⊥
 too_long n more most = let few_enough : n ≤ 1048576 = most in omega (arith, more, few_enough)
 
-pub a_list_of_the_most_entries_is_short_enough : 1048576 ≤ most_entries
-a_list_of_the_most_entries_is_short_enough = lit≤ tt
+pub a_list_of_the_MOST_INPUT_is_short_enough : 1048576 ≤ MOST_INPUT
+a_list_of_the_MOST_INPUT_is_short_enough = lit≤ tt
 
 pub a_script_has_too_many_items : (table : Table) (whole : Items) → 1048576 < count_of_items whole → IsSound table whole → ⊥
 a_script_has_too_many_items table whole more h = too_long _ more h.entries

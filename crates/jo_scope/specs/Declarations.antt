@@ -6,6 +6,7 @@
 use Rattle.std.specs.Prelude.{◌≡◌, ℕ, ◌==◌, Bool, false, if◌then◌else◌, List, [], ◌∷◌, ◌++◌, Option, Some, None}
 use Rattle.std.specs.List.{list_any}
 use Rattle.jo_tree.specs.declared.word.Ident.{Ident}
+use Rattle.jo_tree.specs.Blocks.{names_of, declared_in, declared_by}
 use Rattle.jo_tree.specs.Trees.{Tree, number, literal, constant, variable, group, object, cas, member, unary, delete, chain, choose, assign, Props, no_props, prop, Accesses, no_accesses, field, index, Links, no_links, link, Binding, Head, declares, begins, Statement, empty, block, when, either, while, for, break, continue, print, print_names, run, Items, no_items, declare, perform}
 
 -- ---- faults
@@ -62,23 +63,6 @@ uses_of_optional (Some e) = uses_of e
 abbrev pub uses_of_all : List Tree → List Ident
 uses_of_all [] = []
 uses_of_all (e ∷ es) = uses_of e ++ uses_of_all es
-
--- ---- declarations
-
-abbrev pub names_of : List Binding → List ℕ
-names_of [] = []
-names_of (b ∷ bindings) = b.0.text.0 ∷ names_of bindings
-
--- the names that a block declares itself, anywhere, and so not those of the blocks in it
-abbrev pub declared_in : Items → List ℕ
-declared_in no_items = []
-declared_in (declare bindings items) = names_of bindings ++ declared_in items
-declared_in (perform statement items) = declared_in items
-
--- those that the head of a `for` declares
-abbrev pub declared_by : Head → List ℕ
-declared_by (declares bindings) = names_of bindings
-declared_by (begins e) = []
 
 -- ---- scopes
 

@@ -1,28 +1,19 @@
 -- When a script is sound for a table of texts: what an accepted script is, with its table, and what it takes to run one.
-use Rattle.std.specs.Prelude.{ℕ, ◌+◌, ◌≤◌, ◌<◌, ℤ, pos, false, List, [], ◌∷◌, length, codes, Option, Some, None}
-use Rattle.jo_value.specs.declared.limits.TheConstants.{MOST_NUMBER}
+use Rattle.std.specs.Prelude.{ℕ, ◌+◌, ◌≤◌, ◌<◌, ℤ, pos, false, List, [], ◌∷◌, length, Option, Some, None}
+use Rattle.jo_value.specs.declared.limits.TheConstants.{MOST_INPUT, MOST_NUMBER, MOST_OPEN}
 use Rattle.jo_value.specs.declared.value.TextId.{TextId}
 use Rattle.jo_value.specs.Texts.{Table, number_in}
-use Rattle.jo_tree.specs.declared.keyword.Keyword.{Keyword}
-use Rattle.jo_tree.specs.declared.keyword.Keyword.TheVariants as keyword
 use Rattle.jo_tree.specs.declared.word.Name.{Name}
 use Rattle.jo_tree.specs.declared.word.Name.TheVariants as word
 use Rattle.jo_tree.specs.declared.word.PropKey.{PropKey}
 use Rattle.jo_tree.specs.declared.word.PropKey.TheVariants as prop_key
+use Rattle.jo_tree.specs.Words.{keyword_text}
 use Rattle.jo_tree.specs.Trees.{Tree, number, literal, constant, variable, group, object, cas, member, unary, delete, chain, choose, assign, Props, no_props, prop, Accesses, no_accesses, field, index, Links, no_links, link, Binding, Head, declares, begins, Statement, empty, block, when, either, while, for, break, continue, print, print_names, run, Items, no_items, declare, perform}
 use Rattle.jo_grammar.specs.Statements.{FitItems, items}
 use Rattle.jo_grammar.specs.Refusals.{Within}
 use Rattle.jo_scope.specs.Declarations.{IsDeclared}
 
 -- ---- limits
-
--- the most constructs that are open at once
-abbrev pub most_open : ℕ
-most_open = 64
-
--- the most entries that a list of a tree has
-abbrev pub most_entries : ℕ
-most_entries = 1048576
 
 -- the number of a literal, which has no sign
 abbrev pub IsInRange : ℤ → Type 0
@@ -48,28 +39,6 @@ abbrev pub count_of_items : Items → ℕ
 count_of_items no_items = 0
 count_of_items (declare bindings items) = count_of_items items + 1
 count_of_items (perform statement items) = count_of_items items + 1
-
--- ---- words
-
--- the text of a reserved word that the grammar names
-abbrev pub keyword_text : Keyword → List ℕ
-keyword_text keyword.Break = codes "break"
-keyword_text keyword.Cas = codes "cas"
-keyword_text keyword.Continue = codes "continue"
-keyword_text keyword.Delete = codes "delete"
-keyword_text keyword.Else = codes "else"
-keyword_text keyword.False = codes "false"
-keyword_text keyword.For = codes "for"
-keyword_text keyword.If = codes "if"
-keyword_text keyword.In = codes "in"
-keyword_text keyword.Let = codes "let"
-keyword_text keyword.Null = codes "null"
-keyword_text keyword.Print = codes "print"
-keyword_text keyword.PrintNames = codes "printNames"
-keyword_text keyword.Shared = codes "shared"
-keyword_text keyword.True = codes "true"
-keyword_text keyword.Undefined = codes "undefined"
-keyword_text keyword.While = codes "while"
 
 module _ (texts : Table) where
   -- the table has a text of this number
@@ -97,12 +66,12 @@ module _ (texts : Table) where
     Suits (constant w) = Unit {0}
     Suits (variable x) = IsNumbered x.text
     Suits (group e) = Suits e
-    Suits (object props comma) = (count_of_props props ≤ most_entries) × SuitProps props
+    Suits (object props comma) = (count_of_props props ≤ MOST_INPUT) × SuitProps props
     Suits (cas o k a b) = Suits o × Suits k × Suits a × Suits b
-    Suits (member e accesses) = Suits e × (count_of_accesses accesses ≤ most_entries) × SuitAccesses accesses
+    Suits (member e accesses) = Suits e × (count_of_accesses accesses ≤ MOST_INPUT) × SuitAccesses accesses
     Suits (unary operator e) = Suits e
     Suits (delete e) = Suits e
-    Suits (chain level e links) = Suits e × (count_of_links links ≤ most_entries) × SuitLinks links
+    Suits (chain level e links) = Suits e × (count_of_links links ≤ MOST_INPUT) × SuitLinks links
     Suits (choose c a b) = Suits c × Suits a × Suits b
     Suits (assign operator target e) = Suits target × Suits e
 
@@ -133,7 +102,7 @@ module _ (texts : Table) where
 
   -- a `let`
   abbrev pub SuitsDeclaration : List Binding → Type 0
-  SuitsDeclaration bindings = (length bindings ≤ most_entries) × SuitBindings bindings
+  SuitsDeclaration bindings = (length bindings ≤ MOST_INPUT) × SuitBindings bindings
 
   abbrev pub SuitsHead : Head → Type 0
   SuitsHead (declares bindings) = SuitsDeclaration bindings
@@ -143,14 +112,14 @@ module _ (texts : Table) where
     -- the same of a statement
     pub SuitsStatement : Statement → Type 0
     SuitsStatement empty = Unit {0}
-    SuitsStatement (block items) = (count_of_items items ≤ most_entries) × SuitItems items
+    SuitsStatement (block items) = (count_of_items items ≤ MOST_INPUT) × SuitItems items
     SuitsStatement (when c a) = Suits c × SuitsStatement a
     SuitsStatement (either c a b) = Suits c × SuitsStatement a × SuitsStatement b
     SuitsStatement (while c a) = Suits c × SuitsStatement a
     SuitsStatement (for head c step a) = SuitsHead head × SuitsOptional c × SuitsOptional step × SuitsStatement a
     SuitsStatement break = Unit {0}
     SuitsStatement continue = Unit {0}
-    SuitsStatement (print es) = (length es ≤ most_entries) × SuitAll es
+    SuitsStatement (print es) = (length es ≤ MOST_INPUT) × SuitAll es
     SuitsStatement (print_names e) = Suits e
     SuitsStatement (run e) = Suits e
 
@@ -166,9 +135,9 @@ module _ (texts : Table) where
     -- by the grammar it is a script, and so `break` and `continue` stand in loops
     pub grammar : FitItems false script
     -- nowhere in it are too many constructs open
-    pub depth : Within most_open (items 0 script)
+    pub depth : Within MOST_OPEN (items 0 script)
     -- its items are not too many
-    pub entries : count_of_items script ≤ most_entries
+    pub entries : count_of_items script ≤ MOST_INPUT
     -- its numbers are in range, its texts and names are in the table, and its other lists are not too long
     pub parts : SuitItems script
     -- each use of a name means a binding that has ended, and no block declares a name twice

@@ -8,7 +8,7 @@ use Rattle.jo_grammar.specs.declared.terminal.Terminal.{Terminal}
 use Rattle.jo_grammar.specs.Refusals.{Language, Fault, IsAccepted}
 use Rattle.jo_grammar.proofs.Accepted.{Answers}
 use Rattle.jo_syntax.specs.Parsed.{Answered, Gives, IsFault, Refuses, refusal_of}
-use Rattle.jo_syntax.specs.declared.refusal.TheConstants.{MOST_OPEN}
+use Rattle.jo_value.specs.declared.limits.TheConstants.{MOST_OPEN}
 
 module _ {X A : Type 0} (view : X → A) (L : Language A) (tokens : List Token) (ts : List Terminal) (w : Result A (Fault × List Terminal)) where
   ok-once : (a b : A) → (let v : Result A (Fault × List Terminal) = Ok a in v ≡ Ok b) → a ≡ b

@@ -10,7 +10,7 @@ use Rattle.jo_grammar.specs.Refusals.{Fault, unexpected, too_deep}
 use Rattle.jo_grammar.specs.Read.{read, whole, whole_of}
 use Rattle.jo_syntax.specs.Outcomes.{Fails}
 use Rattle.jo_syntax.specs.Parsed.{start_at, kind_of, fault_at, Answered}
-use Rattle.jo_syntax.specs.declared.refusal.TheConstants.{MOST_OPEN}
+use Rattle.jo_value.specs.declared.limits.TheConstants.{MOST_OPEN}
 use Rattle.jo_syntax.specs.declared.stop.Stop.{Stop}
 use Rattle.jo_syntax.specs.declared.stop.Stop.TheVariants as s
 

@@ -1,9 +1,7 @@
 pub mod Lists
 pub mod Rooms
 pub mod Targets
-pub mod Words
 pub mod Rules
 pub mod Given
 pub mod ScriptRules
 pub mod Exactly
-pub mod Keywords

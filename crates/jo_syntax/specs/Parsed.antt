@@ -9,7 +9,7 @@ use Rattle.jo_lex.specs.declared.refusal.RefusalKind.TheVariants.{Unexpected, Ne
 use Rattle.jo_lex.specs.declared.token.Token.{Token}
 use Rattle.jo_grammar.specs.declared.terminal.Terminal.{Terminal}
 use Rattle.jo_grammar.specs.Refusals.{Language, Fault, unexpected, too_deep, IsRefused}
-use Rattle.jo_syntax.specs.declared.refusal.TheConstants.{MOST_OPEN}
+use Rattle.jo_value.specs.declared.limits.TheConstants.{MOST_OPEN}
 use Rattle.jo_syntax.specs.declared.stop.Stop.{Stop}
 use Rattle.jo_syntax.specs.declared.stop.Stop.TheVariants as s
 

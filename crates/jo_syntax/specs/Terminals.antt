@@ -10,15 +10,7 @@ use Rattle.jo_lex.specs.declared.token.TokenKind.TheVariants as kind
 use Rattle.jo_tree.specs.declared.keyword.Keyword.{Keyword}
 use Rattle.jo_grammar.specs.declared.terminal.Terminal.{Terminal}
 use Rattle.jo_grammar.specs.declared.terminal.Terminal.TheVariants as t
-use Rattle.jo_syntax.specs.declared.keyword.TheConstants.{KEYWORDS}
-
--- the keyword whose word has these bytes
-abbrev pub keyword_in : List (List ℕ × Keyword) → List ℕ → Option Keyword
-keyword_in [] word = None
-keyword_in (row ∷ rows) word = if bytes_eq row.0 word then Some row.1 else keyword_in rows word
-
-unfoldable pub keyword_of : List ℕ → Option Keyword
-keyword_of word = keyword_in (map (λ row. (row.0.now, row.1)) KEYWORDS) word
+use Rattle.jo_tree.specs.Words.{keyword_of}
 
 -- the text of the number, or an empty one where the table has none
 abbrev pub text_at : Table → TextId → List ℕ

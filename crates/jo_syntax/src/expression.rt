@@ -11,12 +11,12 @@ ghost use Rattle.jo_tree.specs.Views.{expr_tree};
 
 use crate::cursor::Cursor;
 use crate::parser::Parser;
-use crate::refusal::{MOST_OPEN, refused, stopped};
+use crate::refusal::{refused, stopped};
 use crate::terminals::terminals;
 use jo_grammar::Terminal;
 use jo_lex::{ParseFault, RefusalKind, Token};
 use jo_tree::Expr;
-use jo_value::Texts;
+use jo_value::{MOST_OPEN, Texts};
 use std::alloc::Global;
 
 // What is answered for the terminals of the tokens.

@@ -4,7 +4,6 @@
 mod code;
 mod cursor;
 mod expression;
-mod keyword;
 mod operator;
 mod parser;
 mod read_script;
@@ -19,6 +18,4 @@ mod terminals;
 mod tests;
 
 pub use expression::parse_expression;
-pub use keyword::KEYWORDS;
 pub use read_script::parse_script;
-pub use refusal::MOST_OPEN;

@@ -11,12 +11,12 @@ ghost use Rattle.jo_tree.specs.Trees.{Items};
 
 use crate::cursor::Cursor;
 use crate::parser::Parser;
-use crate::refusal::{MOST_OPEN, stopped};
+use crate::refusal::stopped;
 use crate::terminals::terminals;
 use jo_grammar::Terminal;
 use jo_lex::{ParseFault, Token};
 use jo_tree::Script;
-use jo_value::Texts;
+use jo_value::{MOST_OPEN, Texts};
 use std::alloc::Global;
 
 // What is answered for the terminals of the tokens.

@@ -7,9 +7,6 @@ use crate::stop::Stop;
 use jo_grammar::Terminal;
 use jo_lex::{ParseFault, Refusal, RefusalKind, Token};
 
-/// The most constructs that may be open at once.
-pub const MOST_OPEN: u8 = 64;
-
 fn start_at(tokens: &[Token], index: usize) -> u32
     ensures { result ≡ spec.start_at tokens.now index }
 {

@@ -2,10 +2,9 @@
 ghost use Rattle.std.specs.Prelude.{◌≡◌, IfOk};
 ghost use Rattle.jo_syntax.specs.Terminals as spec;
 
-use crate::keyword::keyword;
 use jo_grammar::Terminal;
 use jo_lex::{Token, TokenKind};
-use jo_tree::{Ident, Literal};
+use jo_tree::{Ident, Keyword, Literal};
 use jo_value::{TextId, Texts};
 use std::alloc::{AllocError, Global};
 
@@ -31,7 +30,7 @@ fn is_proto(texts: &Texts, id: TextId) -> bool
 fn reserved(texts: &Texts, id: TextId) -> Terminal
     ensures { result ≡ spec.reserved texts.now id }
 {
-    match keyword(text(texts, id)) {
+    match Keyword::of(text(texts, id)) {
         Some(keyword) => Terminal::Keyword(keyword),
         None => Terminal::Reserved(id),
     }

@@ -1,3 +1,5 @@
 pub mod Trees
 pub mod Views
 pub mod ScriptViews
+pub mod Words
+pub mod Blocks

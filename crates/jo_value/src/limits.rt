@@ -1,5 +1,14 @@
 // The limits. All of them are this project's own.
 
+/// The most bytes of an input.
+pub const MOST_INPUT: usize = 1_048_576;
+
+/// The most scripts of a set.
+pub const MOST_SCRIPTS: usize = 8;
+
+/// The most constructs that are open at a token.
+pub const MOST_OPEN: u8 = 64;
+
 /// The most texts of a table.
 pub const MOST_TEXTS: usize = 65_535;
 
@@ -8,6 +17,15 @@ pub const MOST_TEXT_BYTES: usize = 255;
 
 /// The largest number, which is that of `Number.MAX_SAFE_INTEGER`; the least one is its negative.
 pub const MOST_NUMBER: u64 = 9_007_199_254_740_991;
+
+/// The largest index that an object takes.
+pub const MOST_INDEX: u32 = 1_023;
+
+/// The largest array index, by ECMA-262.
+pub const MOST_ARRAY_INDEX: u32 = 4_294_967_294;
+
+/// The most bytes of the printed lines of a script, with the line feed behind each.
+pub const MOST_LINE_BYTES: usize = 262_144;
 
 /// The most names that an object has at once.
 pub const MOST_NAMES: usize = 64;

@@ -60,8 +60,8 @@ impl Texts {
             ↔ ((number_in self.old text.now ≡ length self.old) × (length self.old ≡ MOST_TEXTS)) }
         ensures err { OnErr result (self.new ≡ self.old) }
     {
-        if let Some(at) = self.place(text) {
-            return Ok(TextId(at as u16));
+        if let Some(id) = self.number_of(text) {
+            return Ok(id);
         }
         let next = self.texts.len();
         if next == MOST_TEXTS {
@@ -73,10 +73,23 @@ impl Texts {
         }
     }
 
+    /// The number of the text, where it is there.
+    pub fn number_of(&self, text: &str) -> Option<TextId>
+        ensures some { IfSome result (λ id. id.0 ≡ number_in self.now text.now) }
+        ensures within { IfSome result (λ id. id.0 < length self.now) }
+        ensures none { IfNone result (number_in self.now text.now ≡ length self.now) }
+    {
+        match self.place(text) {
+            Some(at) => Some(TextId(at as u16)),
+            None => None,
+        }
+    }
+
     // The place of the text, where it is there.
     fn place(&self, text: &str) -> Option<usize>
         ensures there { IfSome result (λ at. at ≡ number_in self.now text.now) }
         ensures within { IfSome result (λ at. at < length self.now) }
+        ensures small { IfSome result (λ at. at < MOST_TEXTS) }
         ensures new { IfNone result (number_in self.now text.now ≡ length self.now) }
     {
         self.texts.get_index_of(text)

@@ -2,7 +2,7 @@ use Rattle.std.proofs.Common.{arith, sym, ap, subst, ◌∙◌}
 use Rattle.jo_tree.specs.Views.{expr_tree}
 use Rattle.jo_grammar.specs.Read.{read}
 use Rattle.jo_grammar.specs.Refusals.{unexpected}
-use Rattle.jo_syntax.specs.declared.refusal.TheConstants.{MOST_OPEN}
+use Rattle.jo_value.specs.declared.limits.TheConstants.{MOST_OPEN}
 use Rattle.jo_syntax.specs.Outcomes.{Fails}
 use Rattle.jo_syntax.proofs.Given.{whole-end, whole-left, refusal-given, stop-given}
 use Rattle.jo_syntax.proofs.expression.answer.Goals as goal

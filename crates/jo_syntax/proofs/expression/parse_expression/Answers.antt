@@ -5,7 +5,7 @@ use Rattle.jo_grammar.specs.Read.{whole}
 use Rattle.jo_grammar.proofs.Whole.{whole-answers, whole-accepted, whole-refused}
 use Rattle.jo_syntax.specs.Parsed.{Answered}
 use Rattle.jo_syntax.specs.Terminals.{terminals_of}
-use Rattle.jo_syntax.specs.declared.refusal.TheConstants.{MOST_OPEN}
+use Rattle.jo_value.specs.declared.limits.TheConstants.{MOST_OPEN}
 use Rattle.jo_syntax.proofs.Exactly.{exactly-ok, exactly-refused, exactly-complete, exactly-first}
 use Rattle.jo_syntax.proofs.expression.parse_expression.Goals as goal
 

@@ -5,7 +5,7 @@ use Rattle.jo_grammar.specs.Statements.{IsScript}
 use Rattle.jo_grammar.proofs.ScriptExact.{script-answers, accepted-script, refused-script}
 use Rattle.jo_syntax.specs.Parsed.{Answered}
 use Rattle.jo_syntax.specs.Terminals.{terminals_of}
-use Rattle.jo_syntax.specs.declared.refusal.TheConstants.{MOST_OPEN}
+use Rattle.jo_value.specs.declared.limits.TheConstants.{MOST_OPEN}
 use Rattle.jo_syntax.proofs.Exactly.{exactly-ok, exactly-refused, exactly-complete, exactly-first}
 use Rattle.jo_syntax.proofs.read_script.parse_script.Goals as goal
 
