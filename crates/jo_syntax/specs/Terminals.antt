@@ -1,5 +1,5 @@
 -- The terminals of a script's tokens.
-use Rattle.std.specs.Prelude.{ℕ, Bool, true, false, not, List, [], ◌∷◌, map, if◌then◌else◌, Option, None, Some, codes, slice_index_or}
+use Rattle.std.specs.Prelude.{ℕ, Bool, true, false, not, List, [], map, Option, None, Some, codes, slice_index_or}
 use Rattle.std.specs.List.{take_while}
 use Rattle.std.specs.Str.{bytes_eq}
 use Rattle.jo_value.specs.declared.value.TextId.{TextId}
