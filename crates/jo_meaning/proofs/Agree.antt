@@ -18,7 +18,7 @@ use Rattle.jo_model.specs.declared.call.Outcome.{Outcome}
 use Rattle.jo_model.specs.declared.call.Outcome.TheVariants as outcome
 use Rattle.jo_model.specs.declared.call.Reply.{Reply}
 use Rattle.jo_model.specs.declared.call.Reply.TheVariants as reply
-use Rattle.jo_model.specs.Meaning.{line_of}
+use Rattle.jo_model.specs.Printed.{line_of}
 use Rattle.jo_meaning.specs.Runs.{Interaction, Ends, Asks, Takes}
 use Rattle.jo_meaning.specs.State.{State, Next, Scope, ends, unless_fault, unless_refused, asks, made_in, found_in, flag_in, names_in, take_turn, variable_of, value_at, with_value_at}
 use Rattle.jo_meaning.specs.Values.{is_falsy, apply, apply_unary, object_in}

@@ -19,7 +19,7 @@ use Rattle.jo_model.specs.declared.call.Outcome.{Outcome}
 use Rattle.jo_model.specs.declared.call.Outcome.TheVariants as outcome
 use Rattle.jo_model.specs.declared.call.Reply.{Reply}
 use Rattle.jo_model.specs.declared.call.Reply.TheVariants as reply
-use Rattle.jo_model.specs.Meaning.{shared}
+use Rattle.jo_model.specs.Heaps.{shared}
 use Rattle.jo_meaning.specs.Runs.{Run, Waits, Ended}
 use Rattle.jo_meaning.specs.Scripts.{does}
 

@@ -14,7 +14,7 @@ use Rattle.jo_tree.specs.Trees.{Tree, group, object, cas, member, unary, delete,
 use Rattle.jo_model.specs.declared.call.Call.TheVariants as call
 use Rattle.jo_model.specs.declared.call.Outcome.TheVariants as outcome
 use Rattle.jo_model.specs.declared.call.Reply.TheVariants as reply
-use Rattle.jo_model.specs.Meaning.{shared}
+use Rattle.jo_model.specs.Heaps.{shared}
 use Rattle.jo_meaning.proofs.Words.{ident, x, natural, text, null_word, undefined_word, true_word, shared_word, dot, at, shared_x, shared_y, shared_z, minus, two, sum, set, add, show, all, with, name, integer, get, put, found, after, printing, running, done, fails}
 
 -- an operator of one operand

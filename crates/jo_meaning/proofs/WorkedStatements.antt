@@ -11,7 +11,7 @@ use Rattle.jo_model.specs.declared.call.Call.TheVariants as call
 use Rattle.jo_model.specs.declared.call.Outcome.TheVariants as outcome
 use Rattle.jo_model.specs.declared.call.Reply.{Reply}
 use Rattle.jo_model.specs.declared.call.Reply.TheVariants as reply
-use Rattle.jo_model.specs.Meaning.{shared}
+use Rattle.jo_model.specs.Heaps.{shared}
 use Rattle.jo_meaning.specs.Runs.{Run, follow}
 use Rattle.jo_meaning.specs.State.{ends}
 use Rattle.jo_meaning.specs.Statements.{executes}

@@ -13,7 +13,7 @@ use Rattle.jo_tree.specs.declared.operator.BinaryOperator.{BinaryOperator}
 use Rattle.jo_tree.specs.declared.operator.BinaryOperator.TheVariants as binary
 use Rattle.jo_tree.specs.Trees.{Tree, number, literal, constant, variable, group, object, cas, member, unary, delete, chain, choose, assign, Props, no_props, prop, Accesses, no_accesses, field, index, Links, no_links, link}
 use Rattle.jo_model.specs.declared.call.Call.TheVariants as call
-use Rattle.jo_model.specs.Meaning.{shared}
+use Rattle.jo_model.specs.Heaps.{shared}
 use Rattle.jo_meaning.specs.State.{Next, Scope, unless_fault, asks, made_in, found_in, flag_in, variable_of, value_at, with_value_at}
 use Rattle.jo_meaning.specs.Values.{is_falsy, apply, apply_unary, object_in}
 use Rattle.jo_meaning.specs.Keys.{key_in, name_value, prop_value}

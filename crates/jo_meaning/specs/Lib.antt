@@ -8,3 +8,4 @@ pub mod Statements
 pub mod Scripts
 pub mod Play
 pub mod Histories
+pub mod Output

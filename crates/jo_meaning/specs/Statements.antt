@@ -7,7 +7,7 @@ use Rattle.jo_tree.specs.Blocks.{declared_in, declared_by}
 use Rattle.jo_tree.specs.Trees.{Tree, Binding, Head, declares, begins, Statement, empty, block, when, either, while, for, break, continue, print, print_names, run, Items, no_items, declare, perform}
 use Rattle.jo_model.specs.declared.call.Call.TheVariants as call
 use Rattle.jo_model.specs.declared.call.Outcome.TheVariants.{TurnsSpent}
-use Rattle.jo_model.specs.Meaning.{line_of}
+use Rattle.jo_model.specs.Printed.{line_of}
 use Rattle.jo_meaning.specs.State.{Next, Scope, ends, unless_fault, asks, names_in, take_turn, variable_of}
 use Rattle.jo_meaning.specs.Values.{is_falsy, object_in}
 use Rattle.jo_meaning.specs.Printed.{line_of_names, prints}

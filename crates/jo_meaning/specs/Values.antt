@@ -13,7 +13,7 @@ use Rattle.jo_tree.specs.declared.operator.UnaryOperator.{UnaryOperator}
 use Rattle.jo_tree.specs.declared.operator.UnaryOperator.TheVariants as unary
 use Rattle.jo_model.specs.declared.call.Outcome.{Outcome}
 use Rattle.jo_model.specs.declared.call.Outcome.TheVariants.{TypeFault, NotSafe}
-use Rattle.jo_model.specs.Meaning.{text_in}
+use Rattle.jo_model.specs.Printed.{text_in}
 
 -- ---- truth
 

@@ -2,6 +2,5 @@ pub mod Passes
 pub mod Places
 pub mod Putting
 pub mod LegalSteps
-pub mod Alone
 pub mod Woven
 pub mod Worked

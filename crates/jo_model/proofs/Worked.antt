@@ -1,6 +1,6 @@
 -- Worked cases of the definitions: what they compute at small objects, heaps, scripts and histories, edge by edge.
-use Rattle.std.proofs.Common.{refl, subst, inl, arith}
-use Rattle.std.specs.Prelude.{◌≡◌, ◌+◌, ◌*◌, ◌<◌, ◌≤◌, ℕ, zero, suc, pos, negsuc, true, false, List, [], ◌∷◌, ◌++◌, codes, length, replicate, slice_get, Option, Some, IfSome}
+use Rattle.std.proofs.Common.{refl, inl, arith}
+use Rattle.std.specs.Prelude.{◌≡◌, ◌+◌, ◌*◌, ◌<◌, ◌≤◌, ℕ, zero, suc, pos, negsuc, true, false, List, [], ◌∷◌, ◌++◌, codes, replicate}
 use Rattle.std.specs.Fmt.{digits}
 use Rattle.jo_value.specs.Texts.{Table, table_of}
 use Rattle.jo_value.specs.Values.{is_strictly_equal}
@@ -14,18 +14,13 @@ use Rattle.jo_model.specs.declared.call.Call.{Call}
 use Rattle.jo_model.specs.declared.call.Call.TheVariants as call
 use Rattle.jo_model.specs.declared.call.Reply.{Reply}
 use Rattle.jo_model.specs.declared.call.Reply.TheVariants as reply
-use Rattle.jo_model.specs.declared.call.Outcome.{Outcome}
 use Rattle.jo_model.specs.declared.call.Outcome.TheVariants as outcome
-use Rattle.jo_model.specs.declared.script.Item.{Item}
-use Rattle.jo_model.specs.declared.script.Item.TheVariants as item
-use Rattle.jo_model.specs.declared.script.Script.{Script}
 use Rattle.jo_model.specs.Objects.{Object, empty_object}
-use Rattle.jo_model.specs.Heaps.{Heap, heap_at_start}
+use Rattle.jo_model.specs.Heaps.{Heap, shared}
 use Rattle.jo_model.specs.One.{one}
 use Rattle.jo_model.specs.History.{Entry, History, IsLegal, IsLawfulSpent, is_change, calls_of}
-use Rattle.jo_model.specs.Runs.{Waits, Ended, End, end_of, history_of}
-use Rattle.jo_model.specs.Meaning.{shared, line_of, interaction_of, does}
-use Rattle.jo_model.specs.Output.{output, object_line, IsRunIn, IsHistoryOf}
+use Rattle.jo_model.specs.Printed.{line_of}
+use Rattle.jo_model.specs.Rendered.{outcome_text, run_text, object_line, heap_text}
 use Rattle.jo_model.specs.Placed.{HeapChange, after, PlacedCall, IsInOwnOrder, IsPlacedChange, IsPlacedUnchanging, weave}
 
 -- The words of the cases.
@@ -406,7 +401,7 @@ no_call_after_454_changes_may_be_refused c r h =
     let over : MOST_STORAGE < h.spent.used + h.spent.need = h.over in
     omega (arith, used, need, over)
 
--- Scripts.
+-- Text.
 
 -- the texts x, y and z
 abbrev xyz : Table
@@ -415,111 +410,6 @@ xyz = table_of (codes "x" ∷ codes "y" ∷ codes "x" ∷ codes "z" ∷ [])
 -- a text that is interned twice stands once
 pub a_text_stands_once_in_a_table : xyz ≡ codes "x" ∷ codes "y" ∷ codes "z" ∷ []
 a_text_stands_once_in_a_table = refl
-
--- shared.x = 1; shared.y = 2; print(shared.x, shared.z);
-abbrev first : Script
-first = record {
-  items =
-      item.Put (record { 0 = 0 }) (pos 1)
-      ∷ item.Put (record { 0 = 1 }) (pos 2)
-      ∷ item.Print (record { name = record { 0 = 0 } } ∷ record { name = record { 0 = 2 } } ∷ []) ∷ [];
-}
-
--- the end of a script alone in pass 1, and its history
-abbrev ended : Script → Table → End
-ended script texts = end_of 1 (interaction_of script texts) (heap_at_start 2)
-
-abbrev history : Script → Table → History
-history script texts = history_of 1 (interaction_of script texts) (heap_at_start 2)
-
--- its output, its outcome and the object are these three lines
-pub the_first_script_writes_three_lines :
-    output (first ∷ []) xyz (history first xyz)
-    ≡ codes "1| 1 undefined\n1= done\n#0.0 {\"x\": 1, \"y\": 2}\n"
-unfolding digits
-the_first_script_writes_three_lines = refl
-
--- what is asked of the script at a place of a set of it alone
-abbrev IsRunAt : ℕ → Script → Type 0
-IsRunAt k script = (o : Outcome) × (slice_get (outcome.Done ∷ []) k ≡ Some o)
-    × IsRunIn (history first xyz) (k + 1) script xyz o
-
--- the first script stands at place 0 and is done, and no script stands at a later place
-pub the_first_script_is_done_at_its_place : (k : ℕ) → IfSome (slice_get (first ∷ []) k) (IsRunAt k)
-the_first_script_is_done_at_its_place zero = (outcome.Done, refl, record { calls = refl; ended = refl })
-the_first_script_is_done_at_its_place (suc k) = tt
-
--- its run is a legal history of this one script, which is done
-pub the_first_script_has_a_legal_history :
-    IsHistoryOf (first ∷ []) xyz (outcome.Done ∷ []) (history first xyz)
-the_first_script_has_a_legal_history =
-    record {
-      legal = (
-        record { pass = omega arith; reply = inl refl },
-        (
-          record { pass = omega arith; reply = inl refl },
-          (
-            record { pass = omega arith; reply = inl refl },
-            (record { pass = omega arith; reply = inl refl }, tt),
-          ),
-        ),
-      );
-      setup = refl;
-      as_many = refl;
-      each = λ k script there.
-          let P : Option Script → Type 0 = λ o. IfSome o (IsRunAt k) in
-          subst P there (the_first_script_is_done_at_its_place k);
-    }
-
--- after two replies it waits for the first of its gets, and has printed nothing
-pub the_first_script_waits_for_its_first_get :
-    does first xyz (reply.Done ∷ reply.Done ∷ [])
-    ≡ record { calls = put (name 0) 1 ∷ put (name 1) 2 ∷ []; lines = []; stand = Waits (call.Get shared (name 0)) }
-the_first_script_waits_for_its_first_get = refl
-
--- at a put that is refused for want of storage it ends with that outcome
-pub a_put_without_storage_ends_the_first_script :
-    does first xyz (reply.Done ∷ reply.Spent (record { used = 1048575; need = 2 }) ∷ [])
-    ≡ record { calls = put (name 0) 1 ∷ put (name 1) 2 ∷ []; lines = []; stand = Ended outcome.Spent }
-a_put_without_storage_ends_the_first_script = refl
-
--- a script of one put
-abbrev one_put : ℕ → Script
-one_put n = record { items = item.Put (record { 0 = n }) (pos n) ∷ [] }
-
--- two scripts of one put each: names stand in the order of the history, outcomes in that of the scripts
-pub two_scripts_write_their_names_in_the_order_of_the_history :
-    output (one_put 0 ∷ one_put 1 ∷ []) xyz (entry 2 (put (name 1) 1) reply.Done ∷ entry 1 (put (name 0) 0) reply.Done ∷ [])
-    ≡ codes "1= done\n2= done\n#0.0 {\"y\": 1, \"x\": 0}\n"
-unfolding digits
-two_scripts_write_their_names_in_the_order_of_the_history = refl
-
--- puts of so many names
-abbrev many_puts : ℕ → List Item
-many_puts zero = []
-many_puts (suc n) = many_puts n ++ item.Put (record { 0 = n }) (pos n) ∷ []
-
--- 65 puts of names and a print
-abbrev too_many : Script
-too_many = record { items = many_puts 65 ++ item.Print (record { name = record { 0 = 0 } } ∷ []) ∷ [] }
-
--- a refused put ends the script with that outcome
-pub a_refused_put_ends_a_script : (ended too_many []).outcome ≡ outcome.TooManyNames
-a_refused_put_ends_a_script = refl
-
--- no call follows the refused one, which is the 65th
-pub a_refused_put_is_the_last_call : length (history too_many []) ≡ 65
-a_refused_put_is_the_last_call = refl
-
--- the line after it is not printed
-pub nothing_is_printed_after_a_refused_put : (ended too_many []).lines ≡ []
-nothing_is_printed_after_a_refused_put = refl
-
--- the object keeps the 64 names that went in
-pub the_names_before_a_refused_put_stay : (ended too_many []).heap ≡ heap_of (object (numbered 64) [])
-the_names_before_a_refused_put_stay = refl
-
--- Text.
 
 -- a line of values of each kind
 pub a_line_has_each_value_behind_a_blank :
@@ -554,3 +444,18 @@ pub a_name_without_a_text_reads_as_the_empty_text :
     object_line [] 0 (0, object (named 7 (number 1) ∷ []) []) ≡ codes "#0.0 {\"\": 1}\n"
 unfolding digits
 a_name_without_a_text_reads_as_the_empty_text = refl
+
+-- each line of a script stands behind its number, an empty one too
+pub lines_stand_behind_the_number : run_text 3 (codes "a b\n\nc\n") (outcome_text outcome.OutputFull) ≡ codes "3| a b\n3| \n3| c\n3= OutputFull\n"
+unfolding digits
+lines_stand_behind_the_number = refl
+
+-- a script that printed nothing has the line of its outcome alone
+pub no_line_stands_before_the_outcome : run_text 1 [] (outcome_text outcome.Done) ≡ codes "1= done\n"
+unfolding digits
+no_line_stands_before_the_outcome = refl
+
+-- objects stand in order of pass and number
+pub objects_stand_in_order : heap_text [] ((empty_object ∷ []) ∷ (empty_object ∷ object [] ((0, value.Null) ∷ []) ∷ []) ∷ []) ≡ codes "#0.0 {}\n#1.0 {}\n#1.1 {0: null}\n"
+unfolding digits
+objects_stand_in_order = refl

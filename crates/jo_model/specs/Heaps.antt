@@ -7,6 +7,10 @@ use Rattle.jo_model.specs.Objects.{Object, empty_object}
 abbrev pub Heap : Type 0
 Heap = List (List Object)
 
+-- object 0.0, which every script sees
+abbrev pub shared : ObjId
+shared = record { pass = 0; number = 0 }
+
 -- at the start pass 0 has one object, which is empty, and no other pass has any
 abbrev pub heap_at_start : ℕ → Heap
 heap_at_start passes = (empty_object ∷ []) ∷ replicate (passes - 1) []

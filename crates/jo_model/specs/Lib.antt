@@ -3,9 +3,7 @@ pub mod Heaps
 pub mod One
 pub mod History
 pub mod Placed
-pub mod Meaning
-pub mod Runs
-pub mod Output
+pub mod Printed
+pub mod Rendered
 pub mod Calls
 pub mod Plain
-pub mod Names

@@ -1,0 +1,33 @@
+-- The texts of values in printed lines.
+use Rattle.std.specs.Prelude.{ℕ, List, [], ◌∷◌, ◌++◌, codes, decimal, map, flat_map, slice_get, true, false, unwrap_or}
+use Rattle.std.specs.Fmt.{signed_decimal}
+use Rattle.jo_value.specs.Texts.{Table}
+use Rattle.jo_value.specs.declared.value.ObjId.{ObjId}
+use Rattle.jo_value.specs.declared.value.Value.{Value}
+use Rattle.jo_value.specs.declared.value.Value.TheVariants.{Undefined, Null, Bool, Int, Text, Object}
+
+-- the bytes of the text with a number; the empty text where the table lacks it
+abbrev pub text_in : Table → ℕ → List ℕ
+text_in texts id = unwrap_or (slice_get texts id) []
+
+abbrev pub object_text : ObjId → List ℕ
+object_text o = codes "#" ++ decimal o.pass ++ codes "." ++ decimal o.number
+
+-- the text of a value in a line
+abbrev pub value_text : Table → Value → List ℕ
+value_text texts Undefined = codes "undefined"
+value_text texts Null = codes "null"
+value_text texts (Bool true) = codes "true"
+value_text texts (Bool false) = codes "false"
+value_text texts (Int i) = signed_decimal i
+value_text texts (Text t) = text_in texts t.0
+value_text texts (Object o) = object_text o
+
+-- texts one after another, with a text between each two
+abbrev pub joined : List ℕ → List (List ℕ) → List ℕ
+joined between [] = []
+joined between (t ∷ texts) = t ++ flat_map (λ u. between ++ u) texts
+
+-- the line that these values print, without its end
+abbrev pub line_of : Table → List Value → List ℕ
+line_of texts values = joined (codes " ") (map (value_text texts) values)
