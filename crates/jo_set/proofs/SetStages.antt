@@ -113,21 +113,21 @@ text-decides bytes = record {
 
 -- ---- so the answer is one
 
-named-once : (texts : Table) (scripts : List Items) → Once (Named texts scripts)
-named-once texts scripts = stage-once _ _ _ (named-decides scripts) (λ u a b h k. h ∙ sym k)
+named-answer : (texts : Table) (scripts : List Items) → Once (Named texts scripts)
+named-answer texts scripts = stage-once _ _ _ (named-decides scripts) (λ u a b h k. h ∙ sym k)
 
 spelled-answer : (lists : List (List Token)) (texts : Table) → Once (Spelled lists texts)
-spelled-answer lists texts = stage-once _ _ _ (spelled-decides lists texts) (named-once texts)
+spelled-answer lists texts = stage-once _ _ _ (spelled-decides lists texts) (named-answer texts)
 
-something-once : (lists : List (List Token)) (texts : Table) → Once (Something lists texts)
-something-once lists texts = stage-once _ _ _ (something-decides lists) (λ u. spelled-answer lists texts)
+something-answer : (lists : List (List Token)) (texts : Table) → Once (Something lists texts)
+something-answer lists texts = stage-once _ _ _ (something-decides lists) (λ u. spelled-answer lists texts)
 
-lexed-once : (bytes : List ℕ) → Once (Lexed bytes)
-lexed-once bytes = stage-once _ _ _ (lexed-decides bytes) (λ p. something-once p.0 p.1)
+lexed-answer : (bytes : List ℕ) → Once (Lexed bytes)
+lexed-answer bytes = stage-once _ _ _ (lexed-decides bytes) (λ p. something-answer p.0 p.1)
 
-cut-once : (bytes : List ℕ) → Once (Cut bytes)
-cut-once bytes = stage-once _ _ _ (cut-decides bytes) (λ u. lexed-once bytes)
+cut-answer : (bytes : List ℕ) → Once (Cut bytes)
+cut-answer bytes = stage-once _ _ _ (cut-decides bytes) (λ u. lexed-answer bytes)
 
 -- the bytes have one answer
 pub answers-once : (bytes : List ℕ) → Once (Answers bytes)
-answers-once bytes = stage-once _ _ _ (text-decides bytes) (λ u. cut-once bytes)
+answers-once bytes = stage-once _ _ _ (text-decides bytes) (λ u. cut-answer bytes)
