@@ -1,0 +1,5 @@
+pub mod Stages
+pub mod ReadOnce
+pub mod SpelledOnce
+pub mod SetStages
+pub mod OneAnswer
