@@ -1,7 +1,7 @@
 -- Texts with a comma between each two, from texts with a comma before each.
 use Rattle.std.proofs.Common.{◌≡◌, ℕ, List, [], ◌∷◌, ◌++◌, drop, codes, refl, sym, ap, ◌∙◌}
 use Rattle.std.proofs.lemmas.List.Concat.{flat_map-append}
-use Rattle.jo_model.specs.Meaning.{joined}
+use Rattle.jo_model.specs.Printed.{joined}
 use Rattle.jo_text.specs.Pieces.{each_behind}
 
 drop-each_behind : (texts : List (List ℕ)) → drop 2 (each_behind (codes ", ") texts) ≡ joined (codes ", ") texts

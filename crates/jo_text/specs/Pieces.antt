@@ -2,8 +2,8 @@
 use Rattle.std.specs.Prelude.{ℕ, ◌==◌, ◌||◌, List, [], ◌∷◌, ◌++◌, codes, map, flat_map, if◌then◌else◌}
 use Rattle.jo_value.specs.Texts.{Table}
 use Rattle.jo_model.specs.Objects.{Object}
-use Rattle.jo_model.specs.Meaning.{joined}
-use Rattle.jo_model.specs.Output.{element_text, name_text}
+use Rattle.jo_model.specs.Printed.{joined}
+use Rattle.jo_model.specs.Rendered.{element_text, name_text}
 
 -- texts one after another, with a text before each
 abbrev pub each_behind : List ℕ → List (List ℕ) → List ℕ

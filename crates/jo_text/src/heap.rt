@@ -1,7 +1,7 @@
 // The text of all objects: a line for each, in order of pass and number.
 ghost use Rattle.std.specs.Prelude.{◌≡◌, ◌++◌, OnOk};
 ghost use Rattle.std.specs.List.{enumerate_from, flat_map};
-ghost use Rattle.jo_model.specs.Output.{object_line, heap_text};
+ghost use Rattle.jo_model.specs.Rendered.{object_line, heap_text};
 
 use crate::properties::add_properties;
 use jo_model::{PlainHeap, PlainObject};

@@ -1,61 +1,51 @@
 // The part of one script in the output text: its lines, and the line of its outcome.
-ghost use Rattle.std.specs.Prelude.{◌≡◌, ◌++◌, OnOk};
-ghost use Rattle.std.specs.List.{flat_map};
-ghost use Rattle.jo_model.specs.Runs.{Ended};
-ghost use Rattle.jo_model.specs.Output.{outcome_text, line_text, run_text};
+ghost use Rattle.std.specs.Prelude.{◌≡◌, ◌++◌, ◌∷◌, [], true, OnOk, if◌then◌else◌};
+ghost use Rattle.jo_model.specs.Rendered.{headed, outcome_text, run_text};
 
 use jo_model::Outcome;
-use sqlite_items::Items;
 use std::alloc::{AllocError, Global};
 
-/// Puts the printed lines of a script and its outcome at the end.
+/// Puts the printed lines of a script, each closed by a line feed, and its outcome at the end.
 ///
 /// After an `Err` nothing is promised of the text.
 pub fn add_run(
     alloc: Global,
     text: &mut Vec<u8>,
     number: u8,
-    lines: &[Items<u8>],
+    lines: &[u8],
     outcome: Outcome,
 ) -> Result<(), AllocError>
     ensures { OnOk result (text.new.items
-        ≡ text.old.items ++ run_text number lines.now (Ended outcome)) }
+        ≡ text.old.items ++ run_text number lines.now (outcome_text outcome)) }
 {
-    add_printed(alloc, text, number, lines)?;
+    let head = format!(in alloc; "{number}| ")?;
+    add_headed(text, head.as_bytes(), lines)?;
     let last = format!(in alloc; "{number}= {}\n", outcome_text(outcome))?;
     text.extend_from_slice(last.as_bytes())?;
     Ok(())
 }
 
-// Puts each printed line at the end.
-fn add_printed(
-    alloc: Global,
-    text: &mut Vec<u8>,
-    number: u8,
-    lines: &[Items<u8>],
-) -> Result<(), AllocError>
-    ensures { OnOk result (text.new.items
-        ≡ text.old.items ++ flat_map (line_text number) lines.now) }
+// Puts lines at the end, with the head before each.
+fn add_headed(text: &mut Vec<u8>, head: &[u8], lines: &[u8]) -> Result<(), AllocError>
+    ensures { OnOk result (text.new.items ≡ text.old.items ++ headed head.now true lines.now) }
 {
-    for line in lines {
-        add_one_printed(alloc, text, number, line.as_slice())?;
+    let mut begins = true;
+    for byte in lines {
+        add_byte(text, head, begins, *byte)?;
+        begins = *byte == b'\n';
     }
     Ok(())
 }
 
-// Puts a printed line at the end.
-fn add_one_printed(
-    alloc: Global,
-    text: &mut Vec<u8>,
-    number: u8,
-    line: &[u8],
-) -> Result<(), AllocError>
-    ensures { OnOk result (text.new.items ≡ text.old.items ++ line_text number line.now) }
+// Puts a byte of a line at the end, behind the head where a line begins.
+fn add_byte(text: &mut Vec<u8>, head: &[u8], begins: bool, byte: u8) -> Result<(), AllocError>
+    ensures { OnOk result (text.new.items
+        ≡ text.old.items ++ (if begins then head.now else []) ++ byte ∷ []) }
 {
-    let head = format!(in alloc; "{number}| ")?;
-    text.extend_from_slice(head.as_bytes())?;
-    text.extend_from_slice(line)?;
-    text.extend_from_slice(b"\n")?;
+    if begins {
+        text.extend_from_slice(head)?;
+    }
+    text.push(byte)?;
     Ok(())
 }
 

@@ -1,7 +1,7 @@
 // Texts between double quotes.
 ghost use Rattle.std.specs.Prelude.{◌≡◌, ◌++◌, OnOk};
 ghost use Rattle.std.specs.List.{flat_map};
-ghost use Rattle.jo_model.specs.Output.{quoted};
+ghost use Rattle.jo_model.specs.Rendered.{quoted};
 ghost use Rattle.jo_text.specs.Pieces.{escaped};
 
 use std::alloc::AllocError;

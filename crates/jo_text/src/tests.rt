@@ -3,7 +3,6 @@ use crate::{ReadError, add_heap, add_line, add_run, add_value, read_all, write_a
 use jo_io::{Failed, MemorySink, MemorySource};
 use jo_model::{Call, Outcome, PlainHeap};
 use jo_value::{Key, NameId, ObjId, TextId, Texts, Value};
-use sqlite_items::Items;
 use std::process::Abort;
 use std::test::Fail;
 
@@ -42,12 +41,8 @@ fn values_of_all_kinds_stand_in_a_line(rt: HostRuntime) -> Result<(), Fail> {
 #[test]
 fn a_run_of_two_lines(rt: HostRuntime) -> Result<(), Fail> {
     let alloc = rt.alloc();
-    let lines = [
-        Items::from_slice(alloc, b"one 1")?,
-        Items::from_slice(alloc, b"")?,
-    ];
     let mut text = Vec::new(alloc);
-    add_run(alloc, &mut text, 12, &lines, Outcome::TypeFault)?;
+    add_run(alloc, &mut text, 12, b"one 1\n\n", Outcome::TypeFault)?;
     assert_eq!(rt;
         text.as_slice(),
         b"12| one 1\n12| \n12= TypeFault\n".as_slice()

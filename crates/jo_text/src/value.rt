@@ -1,6 +1,6 @@
 // The text of values in a line. Each call puts it at the end of a text.
 ghost use Rattle.std.specs.Prelude.{◌≡◌, ◌++◌, OnOk, codes, map};
-ghost use Rattle.jo_model.specs.Meaning.{text_in, object_text, value_text, line_of};
+ghost use Rattle.jo_model.specs.Printed.{text_in, object_text, value_text, line_of};
 ghost use Rattle.jo_text.specs.Pieces.{each_behind};
 
 use jo_value::{ObjId, TextId, Texts, Value};

@@ -1,6 +1,6 @@
 use Rattle.std.proofs.Common.{[], arith}
 use Rattle.std.specs.List.{enumerate_from, flat_map}
-use Rattle.jo_model.specs.Output.{object_line}
+use Rattle.jo_model.specs.Rendered.{object_line}
 use Rattle.jo_text.proofs.Numbered.{flat_map_numbered_more}
 use Rattle.jo_text.proofs.heap.add_heap.Goals as goal
 

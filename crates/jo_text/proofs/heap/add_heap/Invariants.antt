@@ -1,5 +1,5 @@
 use Rattle.std.proofs.Common.{◌≡◌, ◌++◌, take}
-use Rattle.jo_model.specs.Output.{heap_text}
+use Rattle.jo_model.specs.Rendered.{heap_text}
 use Rattle.jo_text.proofs.heap.add_heap.Given as goal
 
 abbrev pub invariant-loop-pass : goal.invariant-loop-pass

@@ -1,4 +1,4 @@
-use Rattle.jo_model.specs.Output.{object_line}
+use Rattle.jo_model.specs.Rendered.{object_line}
 use Rattle.jo_text.proofs.Numbered.{flat_map_numbered_more}
 use Rattle.jo_text.proofs.heap.add_objects.Goals as goal
 

@@ -1,6 +1,6 @@
 use Rattle.std.proofs.Common.{◌≡◌, ◌++◌, codes, map, take}
 use Rattle.jo_text.specs.Pieces.{each_behind}
-use Rattle.jo_model.specs.Output.{element_text}
+use Rattle.jo_model.specs.Rendered.{element_text}
 use Rattle.jo_text.proofs.properties.add_elements.Given as goal
 
 abbrev pub invariant-loop-element : goal.invariant-loop-element

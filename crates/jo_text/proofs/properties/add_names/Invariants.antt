@@ -1,6 +1,6 @@
 use Rattle.std.proofs.Common.{◌≡◌, ◌++◌, codes, map, take}
 use Rattle.jo_text.specs.Pieces.{each_behind}
-use Rattle.jo_model.specs.Output.{name_text}
+use Rattle.jo_model.specs.Rendered.{name_text}
 use Rattle.jo_text.proofs.properties.add_names.Given as goal
 
 abbrev pub invariant-loop-name : goal.invariant-loop-name

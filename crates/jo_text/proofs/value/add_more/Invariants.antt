@@ -1,6 +1,6 @@
 use Rattle.std.proofs.Common.{◌≡◌, ◌++◌, codes, map, take}
 use Rattle.jo_text.specs.Pieces.{each_behind}
-use Rattle.jo_model.specs.Meaning.{value_text}
+use Rattle.jo_model.specs.Printed.{value_text}
 use Rattle.jo_text.proofs.value.add_more.Given as goal
 
 abbrev pub invariant-loop-value : goal.invariant-loop-value
