@@ -1,0 +1,111 @@
+// The answer to an input.
+ghost use Rattle.std.specs.Prelude.{◌≡◌, ◌≤◌, ◌+◌, ◌×◌, [], ◌∷◌, length, IfOk, IfSome, IfNone, Some};
+ghost use Rattle.jo_value.specs.declared.limits.TheConstants.{MOST_INPUT};
+ghost use Rattle.jo_tree.specs.ScriptViews.{script_tree};
+ghost use Rattle.jo_set.specs.Sets.{IsSet};
+ghost use Rattle.jo_form.specs.Forms.{form_of};
+ghost use Rattle.jo_answer.specs.Answers.{IsBuilt, IsDue};
+
+use crate::lines::{NOT_BUILT_LINE, SIZE_LINE, refusal_line};
+use jo_form::{Form, MOST_FORM_BYTES, form_of};
+use jo_model::Outcome;
+use jo_parse::{ParseFault, ScriptSet, parse_set};
+use jo_text::{add_heap, add_run};
+use jo_value::{MOST_INPUT, Texts};
+use jo_walk::walk;
+use std::alloc::{AllocError, Global};
+
+/// The loop turns that each script has where nothing else is said.
+pub const DEFAULT_TURNS: u32 = 1_000_000;
+
+/// What is said of an input.
+#[derive(Clone, Copy, Debug, PartialEq, Eq)]
+pub enum Verdict {
+    /// Its scripts were run, and each is done.
+    Done,
+    /// Its scripts were run, and some is not done.
+    EndedWithFaults,
+    /// It is no accepted set, or uses what is not built yet.
+    Refused,
+    /// It has too many bytes.
+    TooLarge,
+}
+
+/// What is said of an input, and the text that is due for it.
+#[derive(Debug, Drop)]
+pub struct Answer {
+    pub verdict: Verdict,
+    pub text: Vec<u8>,
+}
+
+/// The answer to an input, of which a byte more than the most may be given.
+pub fn answer(alloc: Global, bytes: &[u8]) -> Result<Answer, AllocError>
+    ensures { IfOk result (λ answer. IsDue answer.verdict bytes.now answer.text.items) }
+{
+    if bytes.len() > MOST_INPUT {
+        return line(alloc, Verdict::TooLarge, SIZE_LINE);
+    }
+    match parse_set(alloc, bytes) {
+        Ok(set) => answer_to_set(alloc, bytes.len(), &set),
+        Err(ParseFault::Refused(refusal)) => Ok(Answer {
+            verdict: Verdict::Refused,
+            text: refusal_line(alloc, refusal)?,
+        }),
+        Err(ParseFault::Memory) => Err(AllocError),
+    }
+}
+
+// A line and nothing else.
+fn line(alloc: Global, verdict: Verdict, line: &[u8]) -> Result<Answer, AllocError>
+    ensures verdict { IfOk result (λ answer. answer.verdict ≡ verdict) }
+    ensures text { IfOk result (λ answer. answer.text.items ≡ line.now) }
+{
+    Ok(Answer {
+        verdict,
+        text: line.to_vec(alloc)?,
+    })
+}
+
+// The answer to an accepted set that was read from so many bytes.
+fn answer_to_set(alloc: Global, length: usize, set: &ScriptSet) -> Result<Answer, AllocError>
+    ensures { IfOk result (λ answer. IsDueForSet length set.now.scripts set.now.texts answer.verdict answer.text.items) }
+{
+    match form_in(alloc, length, set)? {
+        Some(form) => output(alloc, &form, set.texts()),
+        None => line(alloc, Verdict::Refused, NOT_BUILT_LINE),
+    }
+}
+
+// The small form of a set, where it has it.
+fn form_in(alloc: Global, length: usize, set: &ScriptSet) -> Result<Option<Form>, AllocError>
+    ensures some { IfOk result (λ form. IfSome form (λ form. IsForm length set.now.scripts set.now.texts form.steps)) }
+    ensures none { IfOk result (λ form. IfNone form (IsNoForm length set.now.scripts set.now.texts)) }
+{
+    if set.len() > 1 || length > MOST_FORM_BYTES {
+        return Ok(None);
+    }
+    form_of(alloc, set.script(0), set.texts())
+}
+
+// The output of a script of the small form.
+fn output(alloc: Global, form: &Form, texts: &Texts) -> Result<Answer, AllocError>
+    ensures { IfOk result (λ answer. IsAnswerOf form.now.steps texts.now answer.verdict answer.text.items) }
+{
+    let walked = walk(alloc, form, texts)?;
+    let mut text = Vec::new(alloc);
+    add_run(alloc, &mut text, 1, walked.lines.as_slice(), walked.outcome)?;
+    add_heap(alloc, &mut text, texts, &walked.heap)?;
+    Ok(Answer {
+        verdict: verdict_of(walked.outcome),
+        text,
+    })
+}
+
+fn verdict_of(outcome: Outcome) -> Verdict
+    ensures { result ≡ verdict_of outcome }
+{
+    match outcome {
+        Outcome::Done => Verdict::Done,
+        _ => Verdict::EndedWithFaults,
+    }
+}
