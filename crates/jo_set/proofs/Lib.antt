@@ -1,0 +1,3 @@
+pub mod GoodMarks
+pub mod SpelledLengths
+pub mod SpelledTrees
