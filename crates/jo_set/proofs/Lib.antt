@@ -1,3 +1,5 @@
 pub mod GoodMarks
 pub mod SpelledLengths
 pub mod SpelledTrees
+pub mod PiecesInText
+pub mod TokensInTable
