@@ -1,5 +1,5 @@
 -- Marks that are good for a table: their numbers and texts are, and there are not too many; so are the parts of such a list.
-use Rattle.std.proofs.Common.{◌≤◌, ◌<◌, ◌+◌, ℕ, List, [], ◌∷◌, ◌++◌, length, arith, length-append}
+use Rattle.std.proofs.Common.{◌≤◌, ◌<◌, List, [], ◌∷◌, ◌++◌, length, arith, length-append}
 use Rattle.jo_value.specs.declared.limits.TheConstants.{MOST_INPUT}
 use Rattle.jo_value.specs.Texts.{Table, number_in}
 use Rattle.jo_tree.specs.Words.{keyword_text}

@@ -1,11 +1,11 @@
 -- A list in a tree has at most as many entries as its spelling has marks.
-use Rattle.std.proofs.Common.{◌≤◌, ◌+◌, ℕ, List, [], ◌∷◌, ◌++◌, length, arith, length-append, Option, Some, None}
+use Rattle.std.proofs.Common.{◌≤◌, ◌+◌, ℕ, List, [], ◌∷◌, ◌++◌, length, arith, length-append}
 use Rattle.jo_lex.specs.declared.punct.Punct.TheVariants as p
 use Rattle.jo_tree.specs.Trees.{Tree, number, literal, constant, variable, group, object, cas, member, unary, delete, chain, choose, assign, Statement, empty, block, when, either, while, for, break, continue, print, print_names, run, Props, no_props, prop, Accesses, no_accesses, field, index, Links, no_links, link, Binding, Items, no_items, declare, perform}
 use Rattle.jo_grammar.specs.declared.terminal.Terminal.TheVariants as t
 use Rattle.jo_grammar.specs.Operators.{assign_token}
 use Rattle.jo_grammar.specs.Expressions.{mark, spelling, props, more_props, accesses, links}
-use Rattle.jo_grammar.specs.Statements.{initial, binding, bindings, more_bindings, declaration, arguments, more_arguments, statement, items}
+use Rattle.jo_grammar.specs.Statements.{binding, bindings, more_bindings, declaration, arguments, more_arguments, statement, items}
 use Rattle.jo_scope.specs.Sound.{count_of_props, count_of_accesses, count_of_links, count_of_items}
 
 more_props_few : (d : ℕ) (ps : Props) → count_of_props ps ≤ length (more_props d ps)

@@ -1,13 +1,10 @@
 -- What good tokens spell suits the table.
-use Rattle.std.proofs.Common.{◌≤◌, ◌+◌, ℕ, Bool, List, [], ◌∷◌, ◌++◌, length, arith, Option, Some, None}
+use Rattle.std.proofs.Common.{◌≤◌, ◌+◌, ℕ, List, [], ◌∷◌, ◌++◌, arith, Option, Some, None}
 use Rattle.jo_value.specs.declared.limits.TheConstants.{MOST_INPUT}
 use Rattle.jo_value.specs.Texts.{Table}
 use Rattle.jo_lex.specs.declared.punct.Punct.TheVariants as p
-use Rattle.jo_tree.specs.declared.keyword.Keyword.TheVariants as kw
-use Rattle.jo_grammar.specs.declared.terminal.Terminal.TheVariants as t
 use Rattle.jo_tree.specs.Trees.{Tree, number, literal, constant, variable, group, object, cas, member, unary, delete, chain, choose, assign, Statement, empty, block, when, either, while, for, break, continue, print, print_names, run, Props, no_props, prop, Accesses, no_accesses, field, index, Links, no_links, link, Binding, Head, declares, begins, Items, no_items, declare, perform}
-use Rattle.jo_grammar.specs.Operators.{name_token, key_token, binary_token, assign_token, unary_token}
-use Rattle.jo_grammar.specs.Expressions.{Mark, mark, word, plain, comma_at_end, spelling, props, more_props, accesses, links}
+use Rattle.jo_grammar.specs.Expressions.{Mark, mark, spelling, props, more_props, accesses, links}
 use Rattle.jo_grammar.specs.Statements.{optional, initial, binding, bindings, more_bindings, declaration, head, arguments, more_arguments, bracketed, statement, items}
 use Rattle.jo_scope.specs.Sound.{Suits, SuitProps, SuitAccesses, SuitLinks, SuitsOptional, SuitAll, SuitBindings, SuitsDeclaration, SuitsHead, SuitsStatement, SuitItems}
 use Rattle.jo_set.proofs.GoodMarks.{AreFine, named, keyed, front, back, at_head, behind}
@@ -146,9 +143,12 @@ module _ (texts : Table) where
         let n = d + 1 + 1 in
         let m = head n first ++ (optional n c ++ mark p.Semicolon ∷ optional n u) in
         let parts = inside (d + 1) m _ k in
-        let steps = back texts (head n first) _ parts in
-        (suits_head n first (front texts (head n first) _ parts), suits_optional n c (front texts (optional n c) _ steps),
-        suits_optional n u (behind texts _ _ (back texts (optional n c) _ steps)), suits_statement (d + 1) s (back texts (bracketed (d + 1) m) _ k))
+        let steps = back texts (head n first) _ parts in (
+          suits_head n first (front texts (head n first) _ parts),
+          suits_optional n c (front texts (optional n c) _ steps),
+          suits_optional n u (behind texts _ _ (back texts (optional n c) _ steps)),
+          suits_statement (d + 1) s (back texts (bracketed (d + 1) m) _ k),
+        )
     suits_statement d break h = tt
     suits_statement d continue h = tt
     suits_statement d (print es) h =

@@ -1,9 +1,9 @@
 -- The tokens of a script that is read: their texts are in the table after it, their numbers in range, and the table has only grown.
 use Rattle.std.proofs.Common.{◌≡◌, ℕ, zero, suc, ◌+◌, ◌-◌, ◌<◌, ◌≤◌, ◌==◌, ◌||◌, nat_le, nat_lt, Bool, true, false, List, [], ◌∷◌, ◌++◌, length, Option, Some, None, unwrap_or, if◌then◌else◌, refl, sym, ap, subst, ◌∙◌, arith, length-append, append-nil, append_assoc}
-use Rattle.std.proofs.lemmas.Bool.{leb-true, ltb-true, ltb-false}
+use Rattle.std.proofs.lemmas.Bool.{leb-true, ltb-true}
 use Rattle.std.specs.List.{take_while}
 use Rattle.std.specs.Str.{encode_utf8_all}
-use Rattle.std.specs.Prelude.{encode_utf8, pos}
+use Rattle.std.specs.Prelude.{pos}
 use Rattle.jo_value.specs.declared.limits.TheConstants.{MOST_NUMBER, MOST_TEXT_BYTES}
 use Rattle.jo_value.specs.declared.value.TextId.{TextId}
 use Rattle.jo_value.specs.Texts.{Table, number_in, interned}
@@ -16,7 +16,7 @@ use Rattle.jo_lex.specs.declared.refusal.RefusalKind.TheVariants.{BadToken, Numb
 use Rattle.jo_lex.specs.Characters.{Characters, size, is_blank, is_digit, is_in_line, is_word_part, is_word_start, is_spoiler, begins_with, drop_while}
 use Rattle.jo_lex.specs.Punctuators.{Entry, punctuator_of}
 use Rattle.jo_lex.specs.Words.{is_reserved}
-use Rattle.jo_lex.specs.Pieces.{Lexeme, word, text, number, punctuator, Piece, gap, lexeme, fault, after_close, closed, comment, limited, word_piece, quoted, text_piece, decimal, judged, number_piece, accepted, punctuator_piece, token_piece, piece}
+use Rattle.jo_lex.specs.Pieces.{Lexeme, word, text, number, punctuator, Piece, gap, lexeme, fault, after_close, closed, comment, word_piece, quoted, text_piece, decimal, judged, number_piece, accepted, punctuator_piece, token_piece, piece}
 use Rattle.jo_lex.specs.Tokens.{State, Next, ended, refused, onward, is_one_too_many, numbered, word_kind, kind_of, place_after, with_token, taken, next_of, next, going_on, reached, start, last, end_token, IsRead}
 use Rattle.jo_scope.specs.Sound.{IsInRange}
 
@@ -232,11 +232,13 @@ pub read-good : (base : ℕ) (texts : Table) (cs : Characters) (tokens : List To
 read-good base texts cs tokens after h =
     let s = last (start base texts cs) in
     let begins : IsGoodState texts 0 (start base texts cs) = record { good = tt; grown = extends-itself texts; few = omega arith } in
-    let k : IsGoodState texts (size cs + 0) s = reached-good texts (size cs) 0 (start base texts cs) begins in
-    (record {
-      good = subst (λ ts. AreGoodTokens (length after) ts) (sym h.tokens_are) (tokens-push (length after) s.tokens (end_token s.place) (subst (λ t. AreGoodTokens (length t) s.tokens) (sym h.table_is) k.good) tt);
-      before = s.tokens;
-      place = s.place;
-      tokens_are = h.tokens_are;
-      few = omega (arith, k.few);
-    }, subst (Extends texts) (sym h.table_is) k.grown)
+    let k : IsGoodState texts (size cs + 0) s = reached-good texts (size cs) 0 (start base texts cs) begins in (
+      record {
+        good = subst (λ ts. AreGoodTokens (length after) ts) (sym h.tokens_are) (tokens-push (length after) s.tokens (end_token s.place) (subst (λ t. AreGoodTokens (length t) s.tokens) (sym h.table_is) k.good) tt);
+        before = s.tokens;
+        place = s.place;
+        tokens_are = h.tokens_are;
+        few = omega (arith, k.few);
+      },
+      subst (Extends texts) (sym h.table_is) k.grown,
+    )
