@@ -3,3 +3,11 @@ pub mod ReadOnce
 pub mod SpelledOnce
 pub mod SetStages
 pub mod OneAnswer
+pub mod GoodMarks
+pub mod SpelledLengths
+pub mod SpelledTrees
+pub mod PiecesInText
+pub mod TokensInTable
+pub mod ListsInTable
+pub mod TerminalsInTable
+pub mod SetsAreSound
