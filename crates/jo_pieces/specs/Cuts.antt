@@ -2,7 +2,6 @@
 use Rattle.std.specs.Prelude.{◌≡◌, ℕ, ◌+◌, ◌<◌, ◌-◌, ◌==◌, ◌||◌, Bool, if◌then◌else◌, List, [], ◌∷◌, ◌++◌, length, map, slice_get, Some, codes}
 use Rattle.std.specs.Str.{bytes_eq}
 use Rattle.jo_value.specs.declared.limits.TheConstants.{MOST_SCRIPTS}
-use Rattle.jo_lex.specs.declared.refusal.Refusal.{Refusal}
 use Rattle.jo_lex.specs.declared.refusal.RefusalKind.TheVariants.{TooManyScripts}
 use Rattle.jo_lex.specs.declared.refusal.ParseFault.{ParseFault}
 use Rattle.jo_lex.specs.declared.refusal.ParseFault.TheVariants.{Memory, Refused}
@@ -61,6 +60,10 @@ piece_of part = record { start = part.start; text = part.text.now }
 
 abbrev pub parts_of : List Part → List Piece
 parts_of parts = map piece_of parts
+
+-- the refusal at the end of the last script that a set may have
+abbrev pub one_too_many : Piece → ParseFault
+one_too_many piece = Refused (record { kind = TooManyScripts; place = end_of piece })
 
 -- want of memory, or a script too many
 abbrev pub IsCutFault : List ℕ → ParseFault → Type 0
