@@ -14,15 +14,15 @@ pub record IsUnderWay (whole from rest : List ℕ) (parts : List Piece) : Type 0
   pub goes_on : parts ++ pieces_from (length whole - length from) front (lines_of rest) ≡ pieces_of whole
   pub few : length parts < MOST_SCRIPTS
 
-from-nil : (start : ℕ) (text : List ℕ) → pieces_from start text [] ≡ record { start = start; text = text } ∷ []
+pub from-nil : (start : ℕ) (text : List ℕ) → pieces_from start text [] ≡ record { start = start; text = text } ∷ []
 unfolding pieces_from
 from-nil start text = refl
 
-from-separator : (start : ℕ) (text line : List ℕ) (lines : List (List ℕ)) → is_separator line ≡ true → pieces_from start text (line ∷ lines) ≡ record { start = start; text = text } ∷ pieces_from (start + length text + length line) [] lines
+pub from-separator : (start : ℕ) (text line : List ℕ) (lines : List (List ℕ)) → is_separator line ≡ true → pieces_from start text (line ∷ lines) ≡ record { start = start; text = text } ∷ pieces_from (start + length text + length line) [] lines
 unfolding pieces_from
 from-separator start text line lines e = rw e refl
 
-from-other : (start : ℕ) (text line : List ℕ) (lines : List (List ℕ)) → is_separator line ≡ false → pieces_from start text (line ∷ lines) ≡ pieces_from start (text ++ line) lines
+pub from-other : (start : ℕ) (text line : List ℕ) (lines : List (List ℕ)) → is_separator line ≡ false → pieces_from start text (line ∷ lines) ≡ pieces_from start (text ++ line) lines
 unfolding pieces_from
 from-other start text line lines e = rw e refl
 

@@ -11,11 +11,11 @@ pub lines-nil : lines_of [] ≡ []
 unfolding lines_of
 lines-nil = refl
 
-lines-feed : (b : ℕ) (text : List ℕ) → is_feed b ≡ true → lines_of (b ∷ text) ≡ (10 ∷ []) ∷ lines_of text
+pub lines-feed : (b : ℕ) (text : List ℕ) → is_feed b ≡ true → lines_of (b ∷ text) ≡ (10 ∷ []) ∷ lines_of text
 unfolding lines_of
 lines-feed b text e = let ten : b ≡ 10 = search rules in rw (e, ten) refl
 
-lines-other : (b : ℕ) (text : List ℕ) → is_feed b ≡ false → lines_of (b ∷ text) ≡ with_first b (lines_of text)
+pub lines-other : (b : ℕ) (text : List ℕ) → is_feed b ≡ false → lines_of (b ∷ text) ≡ with_first b (lines_of text)
 unfolding lines_of
 lines-other b text e = rw e refl
 

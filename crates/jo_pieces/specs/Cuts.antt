@@ -1,5 +1,5 @@
 -- How the text of a set is cut into its scripts.
-use Rattle.std.specs.Prelude.{◌≡◌, ℕ, ◌+◌, ◌<◌, ◌-◌, ◌==◌, ◌||◌, Bool, if◌then◌else◌, List, [], ◌∷◌, ◌++◌, length, map, slice_get, Some, codes}
+use Rattle.std.specs.Prelude.{◌≡◌, ℕ, ◌+◌, ◌<◌, ◌≤◌, ◌-◌, ◌==◌, ◌||◌, Bool, if◌then◌else◌, List, [], ◌∷◌, ◌++◌, length, map, slice_get, Some, codes}
 use Rattle.std.specs.Str.{bytes_eq}
 use Rattle.jo_value.specs.declared.limits.TheConstants.{MOST_SCRIPTS}
 use Rattle.jo_lex.specs.declared.refusal.RefusalKind.TheVariants.{TooManyScripts}
@@ -43,6 +43,11 @@ pieces_from start text (line ∷ lines) =
     if is_separator line
     then record { start = start; text = text } ∷ pieces_from (start + length text + length line) [] lines
     else pieces_from start (text ++ line) lines
+
+-- each of the scripts ends at the bound or before it
+abbrev pub AreWithin : ℕ → List Piece → Type 0
+AreWithin bound [] = Unit {0}
+AreWithin bound (piece ∷ pieces) = (end_of piece ≤ bound) × AreWithin bound pieces
 
 -- the scripts of a set
 abbrev pub pieces_of : List ℕ → List Piece
