@@ -3,7 +3,7 @@ ghost use Rattle.std.specs.Prelude.{◌≡◌, ◌+◌, ◌<◌, ◌≤◌, [], 
 ghost use Rattle.jo_value.specs.declared.limits.TheConstants.{MOST_INPUT, MOST_SCRIPTS};
 ghost use Rattle.jo_lex.specs.Classes.{EndsWith};
 ghost use Rattle.jo_lex.specs.declared.refusal.ParseFault.TheVariants.{Memory};
-ghost use Rattle.jo_pieces.specs.Cuts.{IsCutFault, is_separator, lines_of, one_too_many, parts_of, piece_of, pieces_of};
+ghost use Rattle.jo_pieces.specs.Cuts.{AreWithin, IsCutFault, is_separator, lines_of, one_too_many, parts_of, piece_of, pieces_of};
 
 use jo_lex::{ParseFault, Refusal, RefusalKind};
 use jo_value::MOST_SCRIPTS;
@@ -85,6 +85,7 @@ fn too_many(last: Piece<'_>) -> ParseFault
 pub fn pieces<'a>(alloc: Global, text: &'a str) -> Result<Vec<Piece<'a>>, ParseFault>
     requires { length text.now ≤ MOST_INPUT }
     ensures ok { IfOk result (λ parts. parts_of parts.items ≡ pieces_of text.now) }
+    ensures within { IfOk result (λ parts. AreWithin (length text.now) (parts_of parts.items)) }
     ensures few { IfOk result (λ parts. length parts.items ≤ MOST_SCRIPTS) }
     ensures refused { IfErr result (IsCutFault text.now) }
 {
