@@ -28,13 +28,13 @@ from-other start text line lines e = rw e refl
 
 pub begun : (whole : List ℕ) → IsUnderWay whole whole whole []
 begun whole = record {
-    front = [];
-    cut = refl;
-    before = [];
-    begins = refl;
-    goes_on = ap (λ n. pieces_from n [] (lines_of whole)) (none-before (length whole));
-    few = omega arith;
-  }
+  front = [];
+  cut = refl;
+  before = [];
+  begins = refl;
+  goes_on = ap (λ n. pieces_from n [] (lines_of whole)) (none-before (length whole));
+  few = omega arith;
+}
   where
     none-before : (n : ℕ) → n - n ≡ 0
     none-before n = omega arith
