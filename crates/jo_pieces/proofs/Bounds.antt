@@ -1,5 +1,5 @@
 -- The scripts of a set end within its text.
-use Rattle.std.proofs.Common.{◌≡◌, ℕ, ◌+◌, ◌≤◌, ◌==◌, Bool, true, false, List, [], ◌∷◌, ◌++◌, length, if◌then◌else◌, refl, ap, arith, length-append}
+use Rattle.std.proofs.Common.{◌≡◌, ℕ, ◌+◌, ◌≤◌, Bool, true, false, List, [], ◌∷◌, ◌++◌, length, refl, ap, arith, length-append}
 use Rattle.jo_pieces.specs.Cuts.{lines_of, with_first, is_separator, pieces_from, pieces_of, AreWithin}
 use Rattle.jo_pieces.proofs.Lines.{is_feed, lines-nil, lines-feed, lines-other}
 use Rattle.jo_pieces.proofs.Cutting.{from-nil, from-separator, from-other}

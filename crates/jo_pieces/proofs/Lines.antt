@@ -1,7 +1,8 @@
 -- The first line of a text.
-use Rattle.std.proofs.Common.{◌≡◌, ℕ, suc, ◌+◌, ◌<◌, ◌==◌, Bool, true, false, not, List, [], ◌∷◌, ◌++◌, length, take, drop, cond, get_or, append_assoc, refl, sym, ap, ◌∙◌, arith, rules}
-use Rattle.std.proofs.lemmas.List.Sums.{passes_at_first, split_at_first}
-use Rattle.std.specs.List.{position_or_len, before_first, after_first}
+use Rattle.std.proofs.Common.{◌≡◌, ℕ, suc, ◌+◌, ◌<◌, ◌==◌, Bool, true, false, not, List, [], ◌∷◌, ◌++◌, length, take, drop, cond, get_or, refl, sym, ap, subst, ◌∙◌, arith, rules}
+use Rattle.std.proofs.lemmas.Grind.{common_steps}
+use Rattle.std.proofs.lemmas.List.Sums.{position_or_len_is}
+use Rattle.std.specs.List.{position_or_len}
 use Rattle.jo_pieces.specs.Cuts.{lines_of, with_first}
 
 abbrev pub is_feed : ℕ → Bool
@@ -19,7 +20,7 @@ pub lines-other : (b : ℕ) (text : List ℕ) → is_feed b ≡ false → lines_
 unfolding lines_of
 lines-other b text e = rw e refl
 
--- the text stands before and behind its first line feed, which is at n
+-- the first line feed is at n
 abbrev CutAt : List ℕ → ℕ → Type 0
 CutAt text n = lines_of text ≡ (take n text ++ 10 ∷ []) ∷ lines_of (drop (n + 1) text)
 
@@ -45,9 +46,25 @@ pub lines-whole : (text : List ℕ) → position_or_len is_feed text ≡ length 
 lines-whole [] same some = absurd (omega arith)
 lines-whole (b ∷ text) same some = whole-step b text (is_feed b) (position_or_len is_feed text) refl (lines-whole text) same
 
-get-feed : (text : List ℕ) → position_or_len is_feed text < length text → get_or text (position_or_len is_feed text) 0 ≡ 10
-get-feed text within = let passes : (get_or text (position_or_len is_feed text) 0 == 10) ≡ true = passes_at_first is_feed text 0 within in search rules
+-- no byte before n is a line feed
+abbrev pub LacksFeedBelow : List ℕ → ℕ → Type 0
+LacksFeedBelow text n = (k : ℕ) → k < n → is_feed (get_or text k 0) ≡ false
 
--- what stands before and behind the first line feed
-pub cut-text : (text : List ℕ) → position_or_len is_feed text < length text → text ≡ (before_first is_feed text ++ 10 ∷ []) ++ after_first is_feed text
-cut-text text within = split_at_first is_feed text 0 within ∙ ap (λ b. before_first is_feed text ++ (b ∷ after_first is_feed text)) (get-feed text within) ∙ sym (append_assoc (before_first is_feed text) (10 ∷ []) (after_first is_feed text))
+take-more : (text : List ℕ) (n : ℕ) → n < length text → take n text ++ get_or text n 0 ∷ [] ≡ take (n + 1) text
+take-more text n within = grind (arith, common_steps)
+
+-- the first line ends behind the first line feed
+pub ends-at-feed : (text : List ℕ) (n : ℕ) → LacksFeedBelow text n → n < length text → get_or text n 0 ≡ 10 → lines_of text ≡ take (n + 1) text ∷ lines_of (drop (n + 1) text)
+ends-at-feed text n before within e =
+    let passes : is_feed (get_or text n 0) ≡ true = rw e refl in
+    let place : position_or_len is_feed text ≡ n = position_or_len_is is_feed text n 0 (omega arith) before (λ le. passes) in
+    subst (CutAt text) place (lines-cut text (omega (arith, place)))
+    ∙ ap (λ t. t ∷ lines_of (drop (n + 1) text)) (ap (λ b. take n text ++ b ∷ []) (sym e) ∙ take-more text n within)
+
+-- or with the text
+pub ends-with-text : (text : List ℕ) (n : ℕ) → LacksFeedBelow text n → n ≡ length text → 0 < length text → lines_of text ≡ take n text ∷ lines_of (drop n text)
+ends-with-text text n before same some =
+    let place : position_or_len is_feed text ≡ n = position_or_len_is is_feed text n 0 (omega arith) before (λ le. absurd (omega arith)) in
+    let front : take n text ≡ text = grind (arith, common_steps) in
+    let back : drop n text ≡ [] = grind (arith, common_steps) in
+    lines-whole text (place ∙ same) some ∙ ap (λ ls. text ∷ ls) (sym (ap lines_of back ∙ lines-nil)) ∙ ap (λ t. t ∷ lines_of (drop n text)) (sym front)

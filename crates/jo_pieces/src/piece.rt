@@ -1,5 +1,6 @@
 // The scripts of a set.
-ghost use Rattle.std.specs.Prelude.{◌≡◌, ◌+◌, ◌<◌, ◌≤◌, [], ◌∷◌, ◌++◌, length, IfErr, IfOk, OnOk};
+ghost use Rattle.std.specs.Prelude.{◌≡◌, ◌+◌, ◌<◌, ◌≤◌, [], ◌∷◌, ◌++◌, length, take, drop, IfErr, IfOk, OnOk};
+ghost use Rattle.std.specs.Str.{IsCharBoundary};
 ghost use Rattle.jo_value.specs.declared.limits.TheConstants.{MOST_INPUT, MOST_SCRIPTS};
 ghost use Rattle.jo_lex.specs.Classes.{EndsWith};
 ghost use Rattle.jo_lex.specs.declared.refusal.ParseFault.TheVariants.{Memory};
@@ -25,6 +26,24 @@ fn front<'a>(text: &'a str, end: &str) -> &'a str
     front
 }
 
+// Where the first line of a text ends, behind its line feed. Most lines are short, so it goes byte by byte.
+fn line_end(text: &str) -> usize
+    requires { 0 < length text.now }
+    ensures boundary { IsCharBoundary text.now result }
+    ensures some { 0 < result }
+    ensures lines { lines_of text.now ≡ take result text.now ∷ lines_of (drop result text.now) }
+{
+    let bytes = text.as_bytes();
+    let mut end = 0;
+    while end < bytes.len() {
+        if bytes[end] == b'\n' {
+            return end + 1;
+        }
+        end += 1;
+    }
+    end
+}
+
 // The first line of a text, with its line feed, and what follows it.
 fn first_line(text: &str) -> (&str, &str)
     requires { 0 < length text.now }
@@ -32,10 +51,7 @@ fn first_line(text: &str) -> (&str, &str)
     ensures parts { text.now ≡ result.0.now ++ result.1.now }
     ensures shorter { length result.1.now < length text.now }
 {
-    match text.split_once('\n') {
-        Some((_, after)) => (front(text, after), after),
-        None => (text, ""),
-    }
+    text.split_at(line_end(text))
 }
 
 fn is_separator(line: &str) -> bool
