@@ -35,6 +35,18 @@ abbrev pub number_in : Tree → Option ℤ
 number_in (number i) = Some i
 number_in _ = None
 
+-- ---- steps
+
+-- an assignment of a number to a property with this name
+abbrev pub put_of : Option NameId → Option ℤ → Option Step
+put_of (Some name) (Some i) = Some (step.Put name i)
+put_of _ _ = None
+
+-- a print of properties with these names, of one at least
+abbrev pub print_of : Option (List NameId) → Option Step
+print_of (Some (name ∷ names)) = Some (step.Print (name ∷ names))
+print_of _ = None
+
 -- ---- names
 
 -- a text that does not begin with a digit, and is not empty; each word is one
@@ -54,7 +66,7 @@ is_shared _ = false
 module _ (texts : Table) where
   -- the name with a number, where its text can be a word
   abbrev pub name_with : ℕ → Option NameId
-  name_with number = if is_word (text_in texts number) then Some (record { 0 = number }) else None
+  name_with n = if is_word (text_in texts n) then Some (record { 0 = n }) else None
 
   -- a word that names a property, by its number in the table
   abbrev pub name_of : Word → Option NameId
@@ -72,16 +84,7 @@ module _ (texts : Table) where
 
   -- ---- statements
 
-  -- an assignment of a number to such a property
-  abbrev pub put_of : Option NameId → Option ℤ → Option Step
-  put_of (Some name) (Some i) = Some (step.Put name i)
-  put_of _ _ = None
-
-  -- a print of such properties, of one at least
-  abbrev pub print_of : Option (List NameId) → Option Step
-  print_of (Some (name ∷ names)) = Some (step.Print (name ∷ names))
-  print_of _ = None
-
+  -- an assignment of a number to such a property, or a print of such properties
   abbrev pub step_of : Statement → Option Step
   step_of (run (assign assign_op.Set target value)) = put_of (shared_name target) (number_in value)
   step_of (print es) = print_of (shared_names es)

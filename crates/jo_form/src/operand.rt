@@ -1,5 +1,5 @@
 // Expressions that are a number, or a property of the shared object. Brackets are not looked through.
-ghost use Rattle.std.specs.Prelude.{◌≡◌, false, IfSome, IfNone};
+ghost use Rattle.std.specs.Prelude.{◌≡◌, false, IfSome, IfNone, ◌∷◌, []};
 ghost use Rattle.jo_tree.specs.Views.{accesses_list, accesses_with, chain_tree, cond_tree, expr_tree, member_tree, postfix_tree, primary_tree, target_tree, unary_tree};
 ghost use Rattle.jo_form.specs.Forms as spec;
 

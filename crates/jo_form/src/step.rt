@@ -1,7 +1,7 @@
 // Statements that are steps.
-ghost use Rattle.std.specs.Prelude.{◌≡◌, IfOk};
+ghost use Rattle.std.specs.Prelude.{◌≡◌, IfOk, Some};
 ghost use Rattle.jo_tree.specs.Trees.{run, print};
-ghost use Rattle.jo_tree.specs.Views.{assign_tree, expr_tree};
+ghost use Rattle.jo_tree.specs.Views.{assign_tree, expr_tree, target_tree};
 ghost use Rattle.jo_tree.specs.ScriptViews.{items_with, statement_tree, trees_list};
 ghost use Rattle.jo_form.specs.Forms as spec;
 
