@@ -1,8 +1,6 @@
 -- Which trees are operands, numbers, names and steps.
-use Rattle.std.proofs.Common.{◌≡◌, ℤ, true, false, None, Option, refl}
+use Rattle.std.proofs.Common.{◌≡◌, ◌≤◌, ℤ, false, List, [], ◌∷◌, length, None, refl, arith}
 use Rattle.jo_value.specs.Texts.{Table}
-use Rattle.jo_value.specs.declared.value.NameId.{NameId}
-use Rattle.jo_tree.specs.declared.word.Name.{Name as Word}
 use Rattle.jo_tree.specs.declared.expr.Expr.{more_of-Expr, end_of-Expr}
 use Rattle.jo_tree.specs.declared.expr.Binary.{Binary, Binary', more_of-Chain, end_of-Chain}
 use Rattle.jo_tree.specs.declared.expr.Chain.{Chain}
@@ -16,11 +14,18 @@ use Rattle.jo_tree.specs.declared.expr.Chain.TheVariants as h
 use Rattle.jo_tree.specs.declared.expr.Unary.TheVariants as u
 use Rattle.jo_tree.specs.declared.expr.Postfix.TheVariants as x
 use Rattle.jo_tree.specs.declared.expr.Primary.TheVariants as p
-use Rattle.jo_tree.specs.Trees.{Tree, run, member, Accesses}
-use Rattle.jo_tree.specs.Views.{expr_tree, cond_tree, chain_tree, unary_tree, postfix_tree, primary_tree}
+use Rattle.jo_tree.specs.declared.expr.Access.{Access}
+use Rattle.jo_tree.specs.declared.expr.Access.TheVariants as a
+use Rattle.jo_tree.specs.declared.expr.Expr.{Expr}
+use Rattle.jo_tree.specs.declared.script.Item.TheBlock.{None', Some', more_of-If, end_of-If, more_of-While, end_of-While, more_of-For, end_of-For}
+use Rattle.jo_tree.specs.declared.script.Statement.{Statement}
+use Rattle.jo_tree.specs.declared.script.Statement.TheVariants as s
+use Rattle.jo_tree.specs.ScriptViews.{statement_tree}
+use Rattle.jo_tree.specs.Trees.{Tree, run, member}
+use Rattle.jo_tree.specs.Views.{expr_tree, cond_tree, chain_tree, unary_tree, postfix_tree, primary_tree, accesses_list}
 use Rattle.jo_tree.proofs.Shapes.{shapes}
 use Rattle.jo_tree.proofs.ScriptShapes.{script_shapes}
-use Rattle.jo_form.specs.Forms.{is_operand, is_shared, only_word, number_in, name_of, shared_name, step_of}
+use Rattle.jo_form.specs.Forms.{is_operand, is_shared, only_word, number_in, shared_name, step_of}
 
 -- ---- primary expressions
 
@@ -107,6 +112,32 @@ pub cond-no-step : (texts : Table) (x : Cond) → step_of texts (run (cond_tree 
 unfolding expr_tree
 cond-no-step texts (c.Chain v) = chain-no-step texts v
 cond-no-step texts (c.Choice' v q (more_of-Expr a end_of-Expr) r (more_of-Expr b end_of-Expr)) = refl
+
+-- ---- accesses
+
+-- two accesses or more
+pub several-no-word : (xs : List Access) → 2 ≤ length xs → only_word (accesses_list xs) ≡ None
+several-no-word [] le = let no_ : ⊥ = omega (arith, le) in absurd no_
+several-no-word (a ∷ []) le = let no_ : ⊥ = omega (arith, le) in absurd no_
+several-no-word (a.Name k ∷ a.Name m ∷ xs) le = refl
+several-no-word (a.Name k ∷ a.Key' q (more_of-Expr v end_of-Expr) ∷ xs) le = refl
+several-no-word (a.Key' q (more_of-Expr v end_of-Expr) ∷ b ∷ xs) le = refl
+
+-- ---- statements
+
+pub statement-no-step : (texts : Table) (x : Statement) → ((es : List Expr) → x ≡ s.Print es → ⊥) → ((e : Expr) → x ≡ s.Expr e → ⊥) → step_of texts (statement_tree x) ≡ None
+unfolding statement_tree
+statement-no-step texts s.Empty not_print not_run = refl
+statement-no-step texts (s.Block' n xs) not_print not_run = refl
+statement-no-step texts (s.If' p (more_of-If c x None' end_of-If)) not_print not_run = refl
+statement-no-step texts (s.If' p (more_of-If c x (Some' y) end_of-If)) not_print not_run = refl
+statement-no-step texts (s.While' p (more_of-While c x end_of-While)) not_print not_run = refl
+statement-no-step texts (s.For' p (more_of-For h c u x end_of-For)) not_print not_run = refl
+statement-no-step texts s.Break not_print not_run = refl
+statement-no-step texts s.Continue not_print not_run = refl
+statement-no-step texts (s.Print es) not_print not_run = absurd (not_print es refl)
+statement-no-step texts (s.PrintNames e) not_print not_run = refl
+statement-no-step texts (s.Expr e) not_print not_run = absurd (not_run e refl)
 
 -- ---- trees of any form
 

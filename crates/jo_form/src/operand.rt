@@ -88,6 +88,7 @@ pub(crate) fn number_in(expr: &Expr) -> Option<i64>
 
 // ---- names
 
+#[tactic(auto, using(crate::proofs::Trees::trees))]
 fn is_shared(primary: &Primary) -> bool
     ensures { result ≡ spec.is_shared (primary_tree primary.now) }
 {
