@@ -25,7 +25,8 @@ use Rattle.jo_tree.specs.Trees.{Tree, run, member}
 use Rattle.jo_tree.specs.Views.{expr_tree, cond_tree, chain_tree, unary_tree, postfix_tree, primary_tree, accesses_list}
 use Rattle.jo_tree.proofs.Shapes.{shapes}
 use Rattle.jo_tree.proofs.ScriptShapes.{script_shapes}
-use Rattle.jo_form.specs.Forms.{is_operand, is_shared, only_word, number_in, shared_name, step_of}
+use Rattle.jo_form.specs.Parts.{is_operand, is_shared, only_word}
+use Rattle.jo_form.specs.Forms.{number_in, shared_name, step_of}
 
 -- ---- primary expressions
 
@@ -138,15 +139,5 @@ statement-no-step texts s.Continue not_print not_run = refl
 statement-no-step texts (s.Print es) not_print not_run = absurd (not_print es refl)
 statement-no-step texts (s.PrintNames e) not_print not_run = refl
 statement-no-step texts (s.Expr e) not_print not_run = absurd (not_run e refl)
-
--- ---- trees of any form
-
-pub operand-number : (e : Tree) → is_operand e ≡ false → number_in e ≡ None
-operand-number (Rattle.jo_tree.specs.Trees.number i) not = let no_ : ⊥ = cc in absurd no_
-operand-number _ not = refl
-
-pub operand-name : (texts : Table) (e : Tree) → is_operand e ≡ false → shared_name texts e ≡ None
-operand-name texts (member e accesses) not = let no_ : ⊥ = cc in absurd no_
-operand-name texts _ not = refl
 
 pub ruleset trees = (shapes, script_shapes, primary-no-name, cond-no-step, binary-no-operand)

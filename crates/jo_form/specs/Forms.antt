@@ -19,16 +19,7 @@ abbrev pub with_front : {A : Type 0} → Option A → Option (List A) → Option
 with_front (Some x) (Some xs) = Some (x ∷ xs)
 with_front _ _ = None
 
--- ---- operands
-
--- a primary expression, or a property of one
-abbrev pub is_operand : Tree → Bool
-is_operand (unary op e) = false
-is_operand (delete e) = false
-is_operand (chain level e links) = false
-is_operand (choose e a b) = false
-is_operand (assign op target value) = false
-is_operand _ = true
+-- ---- numbers
 
 -- a number that is written without a sign and brackets
 abbrev pub number_in : Tree → Option ℤ
@@ -53,15 +44,6 @@ print_of _ = None
 abbrev pub is_word : List ℕ → Bool
 is_word [] = false
 is_word (b ∷ text) = not (is_digit b)
-
--- the word of one access, which is written with a dot
-abbrev pub only_word : Accesses → Option Word
-only_word (field name no_accesses) = Some name
-only_word _ = None
-
-abbrev pub is_shared : Tree → Bool
-is_shared (constant keyword.Shared) = true
-is_shared _ = false
 
 module _ (texts : Table) where
   -- the name with a number, where its text can be a word

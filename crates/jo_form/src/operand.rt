@@ -2,11 +2,10 @@
 ghost use Rattle.std.specs.Prelude.{◌≡◌, false, IfSome, IfNone, ◌∷◌, []};
 ghost use Rattle.jo_tree.specs.Views.{accesses_list, accesses_with, chain_tree, cond_tree, expr_tree, member_tree, postfix_tree, primary_tree, target_tree, unary_tree};
 ghost use Rattle.jo_form.specs.Forms as spec;
+ghost use Rattle.jo_form.specs.Parts as parts;
 
 use crate::word::name_of;
-use jo_tree::{
-    Access, Chain, Cond, Expr, Member, Name, Postfix, Primary, Target, Unary,
-};
+use jo_tree::{Access, Chain, Cond, Expr, Member, Name, Postfix, Primary, Target, Unary};
 use jo_value::{NameId, Texts};
 
 // ---- operands
@@ -14,7 +13,7 @@ use jo_value::{NameId, Texts};
 #[tactic(auto, using(crate::proofs::Trees::trees))]
 fn unary_operand(unary: &Unary) -> Option<&Postfix>
     ensures some { IfSome result (λ postfix. unary_tree unary.now ≡ postfix_tree postfix.now) }
-    ensures none { IfNone result (spec.is_operand (unary_tree unary.now) ≡ false) }
+    ensures none { IfNone result (parts.is_operand (unary_tree unary.now) ≡ false) }
 {
     match unary {
         Unary::Postfix(postfix) => Some(postfix),
@@ -26,7 +25,7 @@ fn unary_operand(unary: &Unary) -> Option<&Postfix>
 #[tactic(auto, using(crate::proofs::Trees::trees))]
 fn chain_operand(chain: &Chain) -> Option<&Postfix>
     ensures some { IfSome result (λ postfix. chain_tree chain.now ≡ postfix_tree postfix.now) }
-    ensures none { IfNone result (spec.is_operand (chain_tree chain.now) ≡ false) }
+    ensures none { IfNone result (parts.is_operand (chain_tree chain.now) ≡ false) }
 {
     match chain {
         Chain::Unary(unary) => unary_operand(unary),
@@ -37,7 +36,7 @@ fn chain_operand(chain: &Chain) -> Option<&Postfix>
 #[tactic(auto, using(crate::proofs::Trees::trees))]
 fn cond_operand(cond: &Cond) -> Option<&Postfix>
     ensures some { IfSome result (λ postfix. cond_tree cond.now ≡ postfix_tree postfix.now) }
-    ensures none { IfNone result (spec.is_operand (cond_tree cond.now) ≡ false) }
+    ensures none { IfNone result (parts.is_operand (cond_tree cond.now) ≡ false) }
 {
     match cond {
         Cond::Chain(chain) => chain_operand(chain),
@@ -48,7 +47,7 @@ fn cond_operand(cond: &Cond) -> Option<&Postfix>
 #[tactic(auto, using(crate::proofs::Trees::trees))]
 fn operand(expr: &Expr) -> Option<&Postfix>
     ensures some { IfSome result (λ postfix. expr_tree expr.now ≡ postfix_tree postfix.now) }
-    ensures none { IfNone result (spec.is_operand (expr_tree expr.now) ≡ false) }
+    ensures none { IfNone result (parts.is_operand (expr_tree expr.now) ≡ false) }
 {
     match expr {
         Expr::Cond(cond) => cond_operand(cond),
@@ -90,14 +89,14 @@ pub(crate) fn number_in(expr: &Expr) -> Option<i64>
 
 #[tactic(auto, using(crate::proofs::Trees::trees))]
 fn is_shared(primary: &Primary) -> bool
-    ensures { result ≡ spec.is_shared (primary_tree primary.now) }
+    ensures { result ≡ parts.is_shared (primary_tree primary.now) }
 {
     matches!(primary, Primary::Shared)
 }
 
 #[tactic(auto, using(crate::proofs::Trees::trees))]
 fn word(access: &Access) -> Option<Name>
-    ensures { result ≡ spec.only_word (accesses_list (access.now ∷ [])) }
+    ensures { result ≡ parts.only_word (accesses_list (access.now ∷ [])) }
 {
     match access {
         Access::Name(name) => Some(*name),
@@ -107,7 +106,7 @@ fn word(access: &Access) -> Option<Name>
 
 // The word of the only access, which is written with a dot.
 fn only_word(accesses: &[Access]) -> Option<Name>
-    ensures { result ≡ spec.only_word (accesses_list accesses.now) }
+    ensures { result ≡ parts.only_word (accesses_list accesses.now) }
 {
     match accesses {
         [access] => word(access),

@@ -42,7 +42,11 @@ fn run(texts: &Texts, expr: &Expr) -> Option<Step>
 }
 
 // The names that these expressions are, from left to right, where each is one.
-fn shared_names(alloc: Global, texts: &Texts, exprs: &[Expr]) -> Result<Option<Items<NameId>>, AllocError>
+fn shared_names(
+    alloc: Global,
+    texts: &Texts,
+    exprs: &[Expr],
+) -> Result<Option<Items<NameId>>, AllocError>
     ensures { IfOk result (λ names. names ≡ spec.shared_names texts.now (trees_list exprs.now)) }
 {
     let mut names = Items::new(alloc);
@@ -87,7 +91,11 @@ fn step_of(alloc: Global, texts: &Texts, statement: &Statement) -> Result<Option
 
 /// The step that an item is, where it is one. It goes before the steps of the items behind it.
 #[tactic(auto, using(crate::proofs::Trees::trees))]
-pub(crate) fn step_of_item(alloc: Global, texts: &Texts, item: &Item) -> Result<Option<Step>, AllocError>
+pub(crate) fn step_of_item(
+    alloc: Global,
+    texts: &Texts,
+    item: &Item,
+) -> Result<Option<Step>, AllocError>
     ensures { IfOk result (λ step. (items : _) → spec.steps_of texts.now (items_with items item.now) ≡ spec.with_front step (spec.steps_of texts.now items)) }
 {
     match item {
