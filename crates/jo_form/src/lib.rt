@@ -6,6 +6,8 @@ mod form;
 mod operand;
 mod script;
 mod step;
+#[cfg(test)]
+mod tests;
 mod word;
 
 pub use form::{Form, MOST_FORM_BYTES, Step};
