@@ -1,6 +1,6 @@
 -- The scripts that the program runs so far: each statement sets a property of the shared object to a number that is written,
 -- or prints properties of it. Such a script has at most as many names as an object.
-use Rattle.std.specs.Prelude.{ℕ, Bool, false, not, ◌==◌, nat_le, if◌then◌else◌, List, [], ◌∷◌, length, map, flat_map, Option, Some, None}
+use Rattle.std.specs.Prelude.{ℕ, ℤ, Bool, true, false, not, ◌==◌, nat_le, if◌then◌else◌, List, [], ◌∷◌, ◌++◌, length, map, flat_map, fold, Option, Some, None}
 use Rattle.std.specs.List.{list_any}
 use Rattle.jo_value.specs.declared.limits.TheConstants.{MOST_NAMES}
 use Rattle.jo_value.specs.declared.value.NameId.{NameId}
@@ -8,7 +8,7 @@ use Rattle.jo_value.specs.Texts.{Table}
 use Rattle.jo_tree.specs.declared.keyword.Keyword.TheVariants as keyword
 use Rattle.jo_tree.specs.declared.operator.AssignOperator.TheVariants as assign_op
 use Rattle.jo_tree.specs.declared.word.Name.{Name as Word}
-use Rattle.jo_tree.specs.Trees.{Tree, number, constant, member, assign, no_accesses, field, Statement, print, run, Items, no_items, declare, perform}
+use Rattle.jo_tree.specs.Trees.{Tree, number, constant, member, unary, delete, chain, choose, assign, Accesses, no_accesses, field, Statement, print, run, Items, no_items, declare, perform}
 use Rattle.jo_model.specs.Printed.{text_in}
 use Rattle.jo_meaning.specs.Keys.{is_digit, name_number}
 use Rattle.jo_form.specs.declared.form.Step.{Step}
@@ -19,6 +19,25 @@ abbrev pub with_front : {A : Type 0} → Option A → Option (List A) → Option
 with_front (Some x) (Some xs) = Some (x ∷ xs)
 with_front _ _ = None
 
+-- ---- numbers
+
+-- a number that is written without a sign and brackets
+abbrev pub number_in : Tree → Option ℤ
+number_in (number i) = Some i
+number_in _ = None
+
+-- ---- steps
+
+-- an assignment of a number to a property with this name
+abbrev pub put_of : Option NameId → Option ℤ → Option Step
+put_of (Some name) (Some i) = Some (step.Put name i)
+put_of _ _ = None
+
+-- a print of properties with these names, of one at least
+abbrev pub print_of : Option (List NameId) → Option Step
+print_of (Some (name ∷ names)) = Some (step.Print (name ∷ names))
+print_of _ = None
+
 -- ---- names
 
 -- a text that does not begin with a digit, and is not empty; each word is one
@@ -27,10 +46,13 @@ is_word [] = false
 is_word (b ∷ text) = not (is_digit b)
 
 module _ (texts : Table) where
+  -- the name with a number, where its text can be a word
+  abbrev pub name_with : ℕ → Option NameId
+  name_with n = if is_word (text_in texts n) then Some (record { 0 = n }) else None
+
   -- a word that names a property, by its number in the table
   abbrev pub name_of : Word → Option NameId
-  name_of name =
-      if is_word (text_in texts (name_number texts name)) then Some (record { 0 = name_number texts name }) else None
+  name_of name = name_with (name_number texts name)
 
   -- the name of a property of the shared object, written with a dot and without brackets
   abbrev pub shared_name : Tree → Option NameId
@@ -44,18 +66,9 @@ module _ (texts : Table) where
 
   -- ---- statements
 
-  -- an assignment of a number to such a property
-  abbrev pub put_of : Option NameId → Tree → Option Step
-  put_of (Some name) (number i) = Some (step.Put name i)
-  put_of _ _ = None
-
-  -- a print of such properties, of one at least
-  abbrev pub print_of : Option (List NameId) → Option Step
-  print_of (Some (name ∷ names)) = Some (step.Print (name ∷ names))
-  print_of _ = None
-
+  -- an assignment of a number to such a property, or a print of such properties
   abbrev pub step_of : Statement → Option Step
-  step_of (run (assign assign_op.Set target value)) = put_of (shared_name target) value
+  step_of (run (assign assign_op.Set target value)) = put_of (shared_name target) (number_in value)
   step_of (print es) = print_of (shared_names es)
   step_of _ = None
 
@@ -72,10 +85,13 @@ abbrev pub names_in : Step → List ℕ
 names_in (step.Put name i) = name.0 ∷ []
 names_in (step.Print names) = map (λ name. name.0) names
 
--- those that stand in the list more than once, only at their last places
+-- the numbers with one more, which goes last where it is new
+abbrev pub with_number : List ℕ → ℕ → List ℕ
+with_number numbers n = if list_any (λ other. n == other) numbers then numbers else numbers ++ n ∷ []
+
+-- each number once, in the order of their first places
 abbrev pub each_once : List ℕ → List ℕ
-each_once [] = []
-each_once (name ∷ names) = if list_any (λ other. other == name) names then each_once names else name ∷ each_once names
+each_once numbers = fold with_number [] numbers
 
 abbrev pub has_few_names : List Step → Bool
 has_few_names steps = nat_le (length (each_once (flat_map names_in steps))) MOST_NAMES
