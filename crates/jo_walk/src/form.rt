@@ -1,7 +1,7 @@
 // The walk over a whole script.
-ghost use Rattle.std.specs.Prelude.{◌≡◌, ℕ, Some, IfOk};
+ghost use Rattle.std.specs.Prelude.{◌≡◌, ◌⊎◌, ℕ, true, Some, IfOk};
 ghost use Rattle.jo_tree.specs.Trees.{Items as Script};
-ghost use Rattle.jo_form.specs.Forms.{form_of};
+ghost use Rattle.jo_form.specs.Forms.{form_of, has_few_names};
 ghost use Rattle.jo_walk.specs.Alone.{IsRunAlone};
 
 use crate::step::step;
@@ -23,6 +23,9 @@ pub fn walk(alloc: Global, form: &Form, texts: &Texts) -> Result<Walked, AllocEr
     // What is left is that of the run of each script with this form, alone, however many turns it has.
     ensures run { IfOk result (λ walked. (script : Script) (turns : ℕ) → form_of texts.now script ≡ Some form.now.steps
         → IsRunAlone script texts.now turns walked.heap walked.lines.items walked.outcome) }
+    // With few names it comes to its end, or to the limit of its lines: no put is refused.
+    ensures ended { IfOk result (λ walked. has_few_names form.now.steps ≡ true
+        → (walked.outcome ≡ Outcome.Done) ⊎ (walked.outcome ≡ Outcome.OutputFull)) }
 {
     let mut heap = PlainHeap::new(alloc, 2)?;
     let mut lines = Vec::new(alloc);
