@@ -5,7 +5,6 @@ use Rattle.std.proofs.lemmas.Option.{none-some, cond_some}
 use Rattle.jo_value.specs.Texts.{Table}
 use Rattle.jo_value.specs.declared.limits.TheConstants.{MOST_LINE_BYTES}
 use Rattle.jo_value.specs.declared.value.NameId.{NameId}
-use Rattle.jo_value.specs.declared.value.Key.{Key}
 use Rattle.jo_value.specs.declared.value.Key.TheVariants.{Name}
 use Rattle.jo_value.specs.declared.value.Value.{Value}
 use Rattle.jo_value.specs.declared.value.Value.TheVariants.{Int}
@@ -36,7 +35,7 @@ use Rattle.jo_form.specs.Forms.{with_front, is_word, shared_name, shared_names, 
 use Rattle.jo_form.specs.declared.form.Step.{Step}
 use Rattle.jo_form.specs.declared.form.Step.TheVariants as step
 use Rattle.jo_walk.specs.Alone.{IsRunAlone}
-use Rattle.jo_walk.specs.Walks.{Stage, value_in, values_in, refusal_of, after_call, after_line, after_step, after_steps, unless_ended}
+use Rattle.jo_walk.specs.Walks.{Stage, value_in, values_in, after_call, after_line, after_step, after_steps, unless_ended}
 
 inside : {A : Type 0} (x y : A) → Some x ≡ Some y → x ≡ y
 inside x y e = (cond_some true x y e).1

@@ -1,5 +1,5 @@
 -- Where the steps have few names no put of them is refused, and they come to their end, or to the limit of the lines.
-use Rattle.std.proofs.Common.{◌≡◌, ℕ, ℤ, ◌+◌, ◌<◌, ◌≤◌, List, [], ◌∷◌, ◌++◌, Bool, true, false, ◌||◌, Option, Some, None, refl, sym, ap, ◌∙◌, ◌⊎◌, inl, inr, length, get_or, subst, arith, eqb, true≢false, length-append}
+use Rattle.std.proofs.Common.{◌≡◌, ℕ, ◌+◌, ◌<◌, ◌≤◌, List, [], ◌∷◌, ◌++◌, Bool, true, false, ◌||◌, Option, Some, None, refl, sym, ap, ◌∙◌, ◌⊎◌, inl, inr, length, get_or, subst, arith, eqb, true≢false, length-append}
 use Rattle.std.specs.Prelude.{map, flat_map, find, nat_le, is_some, option_map, if◌then◌else◌, ◌==◌}
 use Rattle.std.specs.Cmp.{nat_eq_equiv}
 use Rattle.std.specs.List.{IsDistinct, list_any}
@@ -28,7 +28,7 @@ use Rattle.jo_model.specs.Printed.{line_of}
 use Rattle.jo_form.specs.Forms.{names_in, each_once, has_few_names}
 use Rattle.jo_form.specs.declared.form.Step.{Step}
 use Rattle.jo_form.specs.declared.form.Step.TheVariants as step
-use Rattle.jo_walk.specs.Walks.{Stage, values_in, after_call, after_line, after_step, after_steps, unless_ended}
+use Rattle.jo_walk.specs.Walks.{Stage, values_in, after_call, after_line, after_steps, unless_ended}
 
 -- ---- lists of numbers
 

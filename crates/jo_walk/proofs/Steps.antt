@@ -1,13 +1,11 @@
 -- What a step does to the heap, and what is left after it.
-use Rattle.std.proofs.Common.{◌≡◌, ℕ, suc, ◌+◌, ◌<◌, ◌≤◌, ℤ, List, [], ◌∷◌, ◌++◌, take, drop, get_or, drop-cons, Bool, true, false, Option, Some, refl, sym, ap, ◌∙◌, length, subst, arith}
+use Rattle.std.proofs.Common.{◌≡◌, ℕ, suc, ◌+◌, ◌<◌, ◌≤◌, List, [], ◌∷◌, ◌++◌, take, drop, get_or, drop-cons, Bool, true, false, Option, Some, sym, ap, ◌∙◌, length, subst, arith}
 use Rattle.std.specs.Prelude.{if◌then◌else◌}
 use Rattle.std.proofs.lemmas.List.{take_more, map-append, drop_all}
 use Rattle.jo_value.specs.Texts.{Table}
 use Rattle.jo_value.specs.declared.value.NameId.{NameId}
 use Rattle.jo_value.specs.declared.value.Key.{Key}
-use Rattle.jo_value.specs.declared.value.Key.TheVariants.{Name}
 use Rattle.jo_value.specs.declared.value.Value.{Value}
-use Rattle.jo_value.specs.declared.value.Value.TheVariants.{Int}
 use Rattle.jo_model.specs.declared.call.Call.TheVariants as call
 use Rattle.jo_model.specs.declared.call.Outcome.{Outcome}
 use Rattle.jo_model.specs.declared.call.Outcome.TheVariants as outcome
@@ -17,8 +15,7 @@ use Rattle.jo_model.specs.Objects.{has_property, is_full_for, with_value, with_p
 use Rattle.jo_model.specs.Heaps.{Heap, shared, with_object, IsBorn}
 use Rattle.jo_model.specs.One.{one}
 use Rattle.jo_form.specs.declared.form.Step.{Step}
-use Rattle.jo_form.specs.declared.form.Step.TheVariants.{Put}
-use Rattle.jo_walk.specs.Walks.{Stage, IsReady, value_in, values_in, refusal_of, put_shared, after_step, after_steps, unless_ended}
+use Rattle.jo_walk.specs.Walks.{Stage, IsReady, value_in, values_in, after_step, after_steps, unless_ended}
 
 -- ---- the shared object and the pass are there
 
