@@ -1,50 +1,86 @@
--- A script whose names have numbers below the limit is never refused a put, and comes to its end.
-use Rattle.std.proofs.Common.{◌≡◌, ℕ, ◌<◌, ◌≤◌, List, [], ◌∷◌, ◌++◌, Bool, true, false, ◌||◌, Option, Some, refl, sym, ap, ◌∙◌, inl, inr, length, get_or, subst, arith, eqb, true≢false, length-append}
-use Rattle.std.specs.Prelude.{map, find, is_some, option_map, if◌then◌else◌}
+-- Where the steps have few names no put of them is refused, and they come to their end, or to the limit of the lines.
+use Rattle.std.proofs.Common.{◌≡◌, ℕ, ◌+◌, ◌<◌, ◌≤◌, List, [], ◌∷◌, ◌++◌, Bool, true, false, ◌||◌, Option, Some, None, refl, sym, ap, ◌∙◌, ◌⊎◌, inl, inr, length, get_or, subst, arith, eqb, true≢false, length-append}
+use Rattle.std.specs.Prelude.{map, flat_map, find, nat_le, is_some, option_map, if◌then◌else◌, ◌==◌}
 use Rattle.std.specs.Cmp.{nat_eq_equiv}
 use Rattle.std.specs.List.{IsDistinct, list_any}
-use Rattle.std.proofs.lemmas.Bool.{eqb-true, cases_lt, leb-true, or_cases}
-use Rattle.std.proofs.lemmas.Option.{slice_get_past}
+use Rattle.std.proofs.lemmas.Bool.{eqb-true, cases_lt, leb-true, or_cases, or_left, or_right}
+use Rattle.std.proofs.lemmas.Option.{slice_get_past, cond_some}
 use Rattle.std.proofs.lemmas.List.{map-append, length-map}
 use Rattle.std.proofs.lemmas.List.Folds.{find_at, list_any-append}
 use Rattle.std.proofs.lemmas.List.Sums.{passes_at_first}
 use Rattle.std.proofs.lemmas.Map.Keys.{IsDistinct-push}
-use Rattle.std.proofs.lemmas.Map.Steps.{length-le_from_distinct_below}
+use Rattle.std.proofs.lemmas.Map.Made.{length-le_from_is_member}
 use Rattle.std.proofs.Math.Seq.{map-set_same}
 use Rattle.jo_value.specs.Texts.{Table}
 use Rattle.jo_value.specs.Values.{is_same_name}
-use Rattle.jo_value.specs.declared.limits.TheConstants.{MOST_NAMES}
+use Rattle.jo_value.specs.declared.limits.TheConstants.{MOST_NAMES, MOST_LINE_BYTES}
 use Rattle.jo_value.specs.declared.value.NameId.{NameId}
 use Rattle.jo_value.specs.declared.value.Key.TheVariants.{Name}
 use Rattle.jo_value.specs.declared.value.Value.{Value}
 use Rattle.jo_value.specs.declared.value.Value.TheVariants.{Int}
 use Rattle.jo_model.specs.declared.call.Reply.{Reply}
 use Rattle.jo_model.specs.declared.call.Reply.TheVariants as reply
+use Rattle.jo_model.specs.declared.call.Outcome.{Outcome}
 use Rattle.jo_model.specs.declared.call.Outcome.TheVariants as outcome
-use Rattle.jo_model.specs.declared.script.Item.{Item}
-use Rattle.jo_model.specs.declared.script.Item.TheVariants as item
-use Rattle.jo_model.specs.declared.script.Script.{Script}
-use Rattle.jo_model.specs.Names.{UseNamesBelow}
 use Rattle.jo_model.specs.Objects.{Object, empty_object, name_place, has_property, is_full_for, with_value, with_property}
-use Rattle.jo_model.specs.Heaps.{Heap}
-use Rattle.jo_model.specs.Runs.{Lines, end_of}
-use Rattle.jo_model.specs.Meaning.{Next, unless_refused, does_items, line_of}
-use Rattle.jo_model.proofs.Alone.{end_alone}
-use Rattle.jo_walk.specs.Walks.{values_in}
-use Rattle.jo_walk.proofs.Steps.{reads_end}
+use Rattle.jo_model.specs.Heaps.{Heap, heap_at_start}
+use Rattle.jo_model.specs.Printed.{line_of}
+use Rattle.jo_form.specs.Forms.{names_in, each_once, has_few_names}
+use Rattle.jo_form.specs.declared.form.Step.{Step}
+use Rattle.jo_form.specs.declared.form.Step.TheVariants as step
+use Rattle.jo_walk.specs.Walks.{Stage, values_in, after_call, after_line, after_steps, unless_ended}
 
--- the numbers of names
+-- ---- lists of numbers
+
+abbrev IsAmong : ℕ → List ℕ → Type 0
+IsAmong n known = list_any (eqb n) known ≡ true
+
+-- each of some numbers is one of others
+abbrev AreAmong : List ℕ → List ℕ → Type 0
+AreAmong names known = (n : ℕ) → IsAmong n names → IsAmong n known
+
+turned : (names : List ℕ) (n : ℕ) → list_any (λ other. other == n) names ≡ list_any (eqb n) names
+turned [] n = refl
+turned (m ∷ names) n = ap (λ b. b || list_any (λ other. other == n) names) (nat_eq_equiv.symm m n) ∙ ap (λ b. eqb n m || b) (turned names n)
+
+-- the first number and those of the rest, where the first one stands again or not
+once_more : (again : Bool) (m : ℕ) (names once : List ℕ) → list_any (λ other. other == m) names ≡ again → AreAmong names once →
+    AreAmong (m ∷ names) (if again then once else m ∷ once)
+once_more true m names once e rest n h = elim (or_cases (eqb n m) (list_any (eqb n) names) h) [
+  | inl same ↦ let there = sym (turned names m) ∙ e in let is = eqb-true n m same in rest n (ap (λ k. list_any (eqb k) names) is ∙ there)
+  | inr behind ↦ rest n behind
+]
+once_more false m names once e rest n h = elim (or_cases (eqb n m) (list_any (eqb n) names) h) [
+  | inl same ↦ or_left (eqb n m) (list_any (eqb n) once) same
+  | inr behind ↦ or_right (eqb n m) (list_any (eqb n) once) (rest n behind)
+]
+
+-- no number is lost where each is kept once
+once : (names : List ℕ) → AreAmong names (each_once names)
+once [] n h = h
+once (m ∷ names) n h = once_more (list_any (λ other. other == m) names) m names (each_once names) refl (once names) n h
+
+-- those of one step, and those of the others
+first_among : (a b known : List ℕ) → AreAmong (a ++ b) known → AreAmong a known
+first_among a b known all n h = all n (list_any-append (eqb n) a b ∙ or_left (list_any (eqb n) a) (list_any (eqb n) b) h)
+
+others_among : (a b known : List ℕ) → AreAmong (a ++ b) known → AreAmong b known
+others_among a b known all n h = all n (list_any-append (eqb n) a b ∙ or_right (list_any (eqb n) a) (list_any (eqb n) b) h)
+
+-- ---- objects
+
+-- the numbers of the names
 abbrev numbers : List (NameId × Value) → List ℕ
 numbers names = map (λ p. p.0.0) names
 
--- an object whose names are distinct, and have numbers below the limit
-record IsSmall (o : Object) : Type 0 where
+-- an object whose names are distinct, and among those that are known
+record IsSmall (known : List ℕ) (o : Object) : Type 0 where
   distinct : IsDistinct eqb (numbers o.names)
-  below : (q : ℕ) → list_any (eqb q) (numbers o.names) ≡ true → q < MOST_NAMES
+  among : AreAmong (numbers o.names) known
 
--- it has no more names than the limit
-few : (o : Object) → IsSmall o → length (numbers o.names) ≤ MOST_NAMES
-few o small = length-le_from_distinct_below (numbers o.names) MOST_NAMES small.distinct small.below
+-- it has no more names than are known
+few : (known : List ℕ) (o : Object) → IsSmall known o → length (numbers o.names) ≤ length known
+few known o small = length-le_from_is_member nat_eq_equiv (numbers o.names) known small.distinct small.among
 
 -- a name that is not found is none of the numbers
 unfound_at : (p : NameId × Value) (names : List (NameId × Value)) (name : NameId) (b : Bool) → eqb p.0.0 name.0 ≡ b →
@@ -65,72 +101,109 @@ place_within o name h = elim (cases_lt (name_place o name) (length o.names)) [
   | inr le ↦ absurd (true≢false (sym h ∙ ap (λ (v : Option (NameId × Value)). is_some (option_map (λ p. p.1) v)) (slice_get_past o.names (name_place o name) le)))
 ]
 
-small_with_value : (o : Object) (name : NameId) (v : Value) → has_property o (Name name) ≡ true → IsSmall o → IsSmall (with_value o (Name name) v)
-small_with_value o name v h small =
+small_with_value : (known : List ℕ) (o : Object) (name : NameId) (v : Value) → has_property o (Name name) ≡ true → IsSmall known o → IsSmall known (with_value o (Name name) v)
+small_with_value known o name v h small =
     let d : NameId × Value = (name, v) in
     let at = passes_at_first (λ (p : NameId × Value). is_same_name p.0 name) o.names d (place_within o name h) in
     let key = eqb-true (get_or o.names (name_place o name) d).0.0 name.0 at in
     let same = map-set_same (λ (p : NameId × Value). p.0.0) o.names (name_place o name) d d (sym key) in
     record {
       distinct = let P : List ℕ → Type 0 = IsDistinct eqb in subst P (sym same) small.distinct;
-      below = let P : List ℕ → Type 0 = λ l. (q : ℕ) → list_any (eqb q) l ≡ true → q < MOST_NAMES in subst P (sym same) small.below;
+      among = let P : List ℕ → Type 0 = λ l. AreAmong l known in subst P (sym same) small.among;
     }
 
-below_more : (known : List ℕ) (n : ℕ) → n < MOST_NAMES → ((q : ℕ) → list_any (eqb q) known ≡ true → q < MOST_NAMES) →
-    (q : ℕ) → list_any (eqb q) (known ++ n ∷ []) ≡ true → q < MOST_NAMES
-below_more known n lt below q h = elim (or_cases _ _ (sym (list_any-append (eqb q) known (n ∷ [])) ∙ h)) [
-  | inl there ↦ below q there
-  | inr here ↦ elim (or_cases (eqb q n) false here) [
-    | inl same ↦ let e : q ≡ n = eqb-true q n same in omega arith
+among_more : (known names : List ℕ) (n : ℕ) → IsAmong n known → AreAmong names known → AreAmong (names ++ n ∷ []) known
+among_more known names n there among q h = elim (or_cases _ _ (sym (list_any-append (eqb q) names (n ∷ [])) ∙ h)) [
+  | inl before ↦ among q before
+  | inr last ↦ elim (or_cases (eqb q n) false last) [
+    | inl same ↦ ap (λ k. list_any (eqb k) known) (eqb-true q n same) ∙ there
     | inr never ↦ absurd (true≢false (sym never))
   ]
 ]
 
-small_with_property : (o : Object) (name : NameId) (v : Value) → has_property o (Name name) ≡ false → name.0 < MOST_NAMES → IsSmall o → IsSmall (with_property o (Name name) v)
-small_with_property o name v h lt small =
+small_with_property : (known : List ℕ) (o : Object) (name : NameId) (v : Value) → has_property o (Name name) ≡ false → IsAmong name.0 known → IsSmall known o →
+    IsSmall known (with_property o (Name name) v)
+small_with_property known o name v h there small =
     let one : List (NameId × Value) = (name, v) ∷ [] in
-    let more = map-append (λ (p : NameId × Value). p.0.0) o.names one in
+    let longer = map-append (λ (p : NameId × Value). p.0.0) o.names one in
     let new = unfound o.names name (ap (λ (x : Option (NameId × Value)). is_some (option_map (λ p. p.1) x)) (find_at (λ (p : NameId × Value). is_same_name p.0 name) o.names) ∙ h) in
     record {
-      distinct = let P : List ℕ → Type 0 = IsDistinct eqb in subst P (sym more) (IsDistinct-push nat_eq_equiv (numbers o.names) name.0 small.distinct new);
-      below = let P : List ℕ → Type 0 = λ l. (q : ℕ) → list_any (eqb q) l ≡ true → q < MOST_NAMES in subst P (sym more) (below_more (numbers o.names) name.0 lt small.below);
+      distinct = let P : List ℕ → Type 0 = IsDistinct eqb in subst P (sym longer) (IsDistinct-push nat_eq_equiv (numbers o.names) name.0 small.distinct new);
+      among = let P : List ℕ → Type 0 = λ l. AreAmong l known in subst P (sym longer) (among_more known (numbers o.names) name.0 there small.among);
     }
+
+-- ---- steps
+
+-- the steps come to their end, or to the limit of the lines
+abbrev EndsWell : Stage → Type 0
+EndsWell s = (s.outcome ≡ Some outcome.Done) ⊎ (s.outcome ≡ Some outcome.OutputFull)
+
+-- the heap with this shared object
+abbrev heap_with : Object → List Object → List Object → Heap → Heap
+heap_with o objects pass passes = (o ∷ objects) ∷ pass ∷ passes
 
 -- what a put of the shared object makes
 abbrev made : Bool → Bool → Object → List Object → List Object → Heap → NameId → Value → Heap × Reply
 made there full o objects pass passes name v =
-    if there then (((with_value o (Name name) v ∷ objects) ∷ pass ∷ passes), reply.Done)
-    else (if full then (((o ∷ objects) ∷ pass ∷ passes), reply.TooManyNames)
-    else (((with_property o (Name name) v ∷ objects) ∷ pass ∷ passes), reply.Done))
+    if there then (heap_with (with_value o (Name name) v) objects pass passes, reply.Done)
+    else (if full then (heap_with o objects pass passes, reply.TooManyNames)
+    else (heap_with (with_property o (Name name) v) objects pass passes, reply.Done))
+
+-- what is left after a call, and the steps behind it
+abbrev behind_call : Table → List Step → List ℕ → Heap × Reply → Stage
+behind_call texts steps lines p =
+    unless_ended (after_call lines p).outcome (after_call lines p) (after_steps texts steps (after_call lines p).heap (after_call lines p).lines)
 
 -- a put of a small object is done
-put_done : (there full : Bool) (o : Object) (objects pass : List Object) (passes : Heap) (name : NameId) (v : Value) (next : Next) (lines : Lines) →
-    has_property o (Name name) ≡ there → is_full_for o (Name name) ≡ full → name.0 < MOST_NAMES → IsSmall o →
-    ((x : Object) → IsSmall x → (end_of 1 (next lines) ((x ∷ objects) ∷ pass ∷ passes)).outcome ≡ outcome.Done) →
-    (end_of 1 (unless_refused (made there full o objects pass passes name v).1 next lines) (made there full o objects pass passes name v).0).outcome ≡ outcome.Done
-put_done true full o objects pass passes name v next lines h f lt small goes = goes (with_value o (Name name) v) (small_with_value o name v h small)
-put_done false true o objects pass passes name v next lines h f lt small goes =
-    let most : MOST_NAMES ≤ length o.names = leb-true MOST_NAMES (length o.names) f in
+put_ends : (texts : Table) (steps : List Step) (known : List ℕ) (there full : Bool) (o : Object) (objects pass : List Object) (passes : Heap) (name : NameId) (v : Value) (lines : List ℕ) →
+    has_property o (Name name) ≡ there → is_full_for o (Name name) ≡ full → IsAmong name.0 known → length known ≤ MOST_NAMES → IsSmall known o →
+    ((x : Object) → IsSmall known x → EndsWell (after_steps texts steps (heap_with x objects pass passes) lines)) →
+    EndsWell (behind_call texts steps lines (made there full o objects pass passes name v))
+put_ends texts steps known true full o objects pass passes name v lines h f among most small goes = goes (with_value o (Name name) v) (small_with_value known o name v h small)
+put_ends texts steps known false true o objects pass passes name v lines h f among most small goes =
+    let full : MOST_NAMES ≤ length o.names = leb-true MOST_NAMES (length o.names) f in
     let one : List (NameId × Value) = (name, v) ∷ [] in
-    let fits : length (numbers (o.names ++ one)) ≤ MOST_NAMES = few (with_property o (Name name) v) (small_with_property o name v h lt small) in
-    absurd (omega (arith, most, fits, length-map (o.names ++ one) (λ (p : NameId × Value). p.0.0), length-append o.names one))
-put_done false false o objects pass passes name v next lines h f lt small goes = goes (with_property o (Name name) v) (small_with_property o name v h lt small)
+    let fits : length (numbers (o.names ++ one)) ≤ length known = few known (with_property o (Name name) v) (small_with_property known o name v h among small) in
+    absurd (omega (arith, full, fits, most, length-map (o.names ++ one) (λ (p : NameId × Value). p.0.0), length-append o.names one))
+put_ends texts steps known false false o objects pass passes name v lines h f among most small goes =
+    goes (with_property o (Name name) v) (small_with_property known o name v h among small)
 
-done : (texts : Table) (items : List Item) (lines : Lines) (o : Object) (objects pass : List Object) (passes : Heap) → IsSmall o → UseNamesBelow MOST_NAMES items →
-    (end_of 1 (does_items texts items lines) ((o ∷ objects) ∷ pass ∷ passes)).outcome ≡ outcome.Done
-done texts [] lines o objects pass passes small below = refl
-done texts (item.Put name number ∷ items) lines o objects pass passes small below =
-    put_done (has_property o (Name name)) (is_full_for o (Name name)) o objects pass passes name (Int number) (does_items texts items) lines refl refl below.0.0 small
-    (λ x s. done texts items lines x objects pass passes s below.1)
-done texts (item.Print reads ∷ items) lines o objects pass passes small below =
-    let heap : Heap = (o ∷ objects) ∷ pass ∷ passes in
-    ap (λ e. e.outcome) (reads_end reads (λ values printed. does_items texts items (printed ++ line_of texts values ∷ [])) heap lines)
-    ∙ done texts items (lines ++ line_of texts (values_in heap reads) ∷ []) o objects pass passes small below.1
+-- a print leaves the heap as it is, and the lines in one of two ways
+line_ends : (texts : Table) (steps : List Step) (fits : Bool) (heap : Heap) (lines longer : List ℕ) → ((l : List ℕ) → EndsWell (after_steps texts steps heap l)) →
+    (s : Stage) → s ≡ (if fits then record { heap = heap; lines = longer; outcome = None } else record { heap = heap; lines = lines; outcome = Some outcome.OutputFull }) →
+    EndsWell (unless_ended s.outcome s (after_steps texts steps s.heap s.lines))
+line_ends texts steps true heap lines longer goes s e =
+    let P : Stage → Type 0 = λ s. EndsWell (unless_ended s.outcome s (after_steps texts steps s.heap s.lines)) in subst P (sym e) (goes longer)
+line_ends texts steps false heap lines longer goes s e =
+    let P : Stage → Type 0 = λ s. EndsWell (unless_ended s.outcome s (after_steps texts steps s.heap s.lines)) in subst P (sym e) (inr refl)
 
-small_at_start : IsSmall empty_object
+steps_end : (texts : Table) (known : List ℕ) (steps : List Step) (lines : List ℕ) (o : Object) (objects pass : List Object) (passes : Heap) →
+    length known ≤ MOST_NAMES → AreAmong (flat_map names_in steps) known → IsSmall known o →
+    EndsWell (after_steps texts steps (heap_with o objects pass passes) lines)
+steps_end texts known [] lines o objects pass passes most among small = inl refl
+steps_end texts known (step.Put name i ∷ steps) lines o objects pass passes most among small =
+    let first = first_among (name.0 ∷ []) (flat_map names_in steps) known among name.0 (or_left (eqb name.0 name.0) false (nat_eq_equiv.refl name.0)) in
+    let others = others_among (name.0 ∷ []) (flat_map names_in steps) known among in
+    put_ends texts steps known (has_property o (Name name)) (is_full_for o (Name name)) o objects pass passes name (Int i) lines refl refl first most small
+    (λ x s. steps_end texts known steps lines x objects pass passes most others s)
+steps_end texts known (step.Print names ∷ steps) lines o objects pass passes most among small =
+    let heap : Heap = heap_with o objects pass passes in
+    let line = line_of texts (values_in heap names) in
+    let others = others_among (map (λ name. name.0) names) (flat_map names_in steps) known among in
+    line_ends texts steps (nat_le (length lines + length line + 1) MOST_LINE_BYTES) heap lines (lines ++ line ++ 10 ∷ [])
+    (λ l. steps_end texts known steps l o objects pass passes most others small) (after_line heap lines line) refl
+
+small_at_start : (known : List ℕ) → IsSmall known empty_object
 unfolding IsDistinct
-small_at_start = record { distinct = tt; below = λ q h. absurd (true≢false (sym h)) }
+small_at_start known = record { distinct = tt; among = λ q h. absurd (true≢false (sym h)) }
 
--- such a script comes to its end
-pub done_alone : (script : Script) (texts : Table) → UseNamesBelow MOST_NAMES script.items → (end_alone script texts).outcome ≡ outcome.Done
-done_alone script texts below = done texts script.items [] empty_object [] [] [] small_at_start below
+-- such steps end well, from the heap at the start
+pub few_names_end : (texts : Table) (steps : List Step) (o : Outcome) → has_few_names steps ≡ true → (after_steps texts steps (heap_at_start 2) []).outcome ≡ Some o →
+    (o ≡ outcome.Done) ⊎ (o ≡ outcome.OutputFull)
+few_names_end texts steps o few is =
+    let known = each_once (flat_map names_in steps) in
+    let well = steps_end texts known steps [] empty_object [] [] [] (leb-true (length known) MOST_NAMES few) (once (flat_map names_in steps)) (small_at_start known) in
+    elim well [
+      | inl done ↦ inl (cond_some true o outcome.Done (sym is ∙ done)).1
+      | inr full ↦ inr (cond_some true o outcome.OutputFull (sym is ∙ full)).1
+    ]

@@ -1,44 +1,44 @@
--- What a walk over a script leaves, and what an item of it does.
-use Rattle.std.specs.Prelude.{◌≡◌, ℤ, List, [], ◌∷◌, map, Option, Some, None}
-use Rattle.jo_value.specs.Texts.{Table}
+-- What steps do to the heap and the lines.
+use Rattle.std.specs.Prelude.{ℕ, ℤ, ◌+◌, nat_le, if◌then◌else◌, List, [], ◌∷◌, ◌++◌, length, map, Option, Some, None}
+use Rattle.jo_value.specs.declared.limits.TheConstants.{MOST_LINE_BYTES}
 use Rattle.jo_value.specs.declared.value.NameId.{NameId}
 use Rattle.jo_value.specs.declared.value.Key.TheVariants.{Name}
 use Rattle.jo_value.specs.declared.value.Value.{Value}
 use Rattle.jo_value.specs.declared.value.Value.TheVariants.{Int}
+use Rattle.jo_value.specs.Texts.{Table}
 use Rattle.jo_model.specs.declared.call.Call.TheVariants.{Put}
-use Rattle.jo_model.specs.declared.call.Reply.{Reply}
-use Rattle.jo_model.specs.declared.call.Reply.TheVariants.{TooManyNames, ObjectsSpent, Spent}
 use Rattle.jo_model.specs.declared.call.Outcome.{Outcome}
 use Rattle.jo_model.specs.declared.call.Outcome.TheVariants as outcome
-use Rattle.jo_model.specs.declared.script.Item.{Item}
-use Rattle.jo_model.specs.declared.script.Read.{Read}
-use Rattle.jo_model.specs.declared.script.Script.{Script}
+use Rattle.jo_model.specs.declared.call.Reply.{Reply}
+use Rattle.jo_model.specs.declared.call.Reply.TheVariants.{TooManyNames, ObjectsSpent, Spent}
+use Rattle.jo_model.specs.Heaps.{Heap, shared, object_of}
 use Rattle.jo_model.specs.Objects.{value_of}
-use Rattle.jo_model.specs.Heaps.{Heap, object_of}
-use Rattle.jo_model.specs.History.{heap_after, entries_of}
-use Rattle.jo_model.specs.Runs.{Lines, Asks, End, end_of}
-use Rattle.jo_model.specs.Meaning.{shared, Next, unless_refused, does_item}
-use Rattle.jo_model.specs.Output.{IsHistoryOf, history_alone, run_in}
+use Rattle.jo_model.specs.One.{one}
+use Rattle.jo_model.specs.Printed.{line_of}
+use Rattle.jo_form.specs.declared.form.Step.{Step}
+use Rattle.jo_form.specs.declared.form.Step.TheVariants as step
 
--- A script ran alone, as pass 1: the history that one thread gives for it is one of the script to this outcome, with no
--- call of another pass, and what is left are the heap after that history, and the lines of the script in it.
-pub record IsRunAlone (script : Script) (texts : Table) (heap : Heap) (lines : Lines) (outcome : Outcome) : Type 0 where
-  pub of_script : IsHistoryOf (script ∷ []) texts (outcome ∷ []) (history_alone script texts)
-  pub alone : entries_of 1 (history_alone script texts) ≡ history_alone script texts
-  pub heap_is : heap ≡ heap_after 2 (history_alone script texts)
-  pub lines_are : lines ≡ (run_in (history_alone script texts) 1 script texts).lines
+-- where a walk stands: the heap, the lines, and the outcome where it has ended
+pub record Stage : Type 0 where
+  pub heap : Heap
+  pub lines : List ℕ
+  pub outcome : Option Outcome
 
 -- the heap has the shared object and the pass of a script
 abbrev pub IsReady : Heap → Type 0
 IsReady ((object ∷ objects) ∷ pass ∷ passes) = Unit {0}
 IsReady _ = ⊥
 
+-- ---- reads
+
 -- the value of a property of the shared object
 abbrev pub value_in : Heap → NameId → Value
 value_in heap name = value_of (object_of heap shared) (Name name)
 
-abbrev pub values_in : Heap → List Read → List Value
-values_in heap reads = map (λ r. value_in heap r.name) reads
+abbrev pub values_in : Heap → List NameId → List Value
+values_in heap names = map (value_in heap) names
+
+-- ---- steps
 
 -- the outcome of a script that gets a reply, where it is a refusal
 abbrev pub refusal_of : Reply → Option Outcome
@@ -47,18 +47,33 @@ refusal_of ObjectsSpent = Some outcome.ObjectsSpent
 refusal_of (Spent spent) = Some outcome.Spent
 refusal_of _ = None
 
--- the end of a run that ended with this outcome, or goes on with what comes next
-abbrev pub end_after : Option Outcome → Next → Heap → Lines → End
-end_after None next heap lines = end_of 1 (next lines) heap
-end_after (Some outcome) next heap lines = record { heap = heap; lines = lines; outcome = outcome }
+-- the heap after a put on the shared object, and the reply
+abbrev pub put_shared : Heap → NameId → ℤ → Heap × Reply
+put_shared heap name i = one heap 1 (Put shared (Name name) (Int i))
 
--- an item leads to this heap and these lines, whatever comes next
-abbrev pub StepsTo : Table → Item → Heap → Lines → Heap → Lines → Option Outcome → Type 0
-StepsTo texts item heap lines heap' lines' outcome =
-    (next : Next) → end_of 1 (does_item texts item next lines) heap ≡ end_after outcome next heap' lines'
+-- after a call that leaves this heap and has this reply
+abbrev pub after_call : List ℕ → Heap × Reply → Stage
+after_call lines p = record { heap = p.0; lines = lines; outcome = refusal_of p.1 }
 
--- a put leads to this heap, whatever the lines are and whatever comes next
-abbrev pub PutsTo : NameId → ℤ → Heap → Heap → Option Outcome → Type 0
-PutsTo name number heap heap' outcome =
-    (next : Next) (lines : Lines) →
-    end_of 1 (Asks (Put shared (Name name) (Int number)) lines (λ reply. unless_refused reply next lines)) heap ≡ end_after outcome next heap' lines
+-- after a print of one more line
+abbrev pub after_line : Heap → List ℕ → List ℕ → Stage
+after_line heap lines line =
+    if nat_le (length lines + length line + 1) MOST_LINE_BYTES
+    then record { heap = heap; lines = lines ++ line ++ 10 ∷ []; outcome = None }
+    else record { heap = heap; lines = lines; outcome = Some outcome.OutputFull }
+
+abbrev pub after_step : Table → Step → Heap → List ℕ → Stage
+after_step texts (step.Put name i) heap lines = after_call lines (put_shared heap name i)
+after_step texts (step.Print names) heap lines = after_line heap lines (line_of texts (values_in heap names))
+
+-- a stage stays where the walk has ended there, and else another one comes
+abbrev pub unless_ended : Option Outcome → Stage → Stage → Stage
+unless_ended (Some outcome) here next = here
+unless_ended None here next = next
+
+-- after all steps
+abbrev pub after_steps : Table → List Step → Heap → List ℕ → Stage
+after_steps texts [] heap lines = record { heap = heap; lines = lines; outcome = Some outcome.Done }
+after_steps texts (s ∷ steps) heap lines =
+    unless_ended (after_step texts s heap lines).outcome (after_step texts s heap lines)
+    (after_steps texts steps (after_step texts s heap lines).heap (after_step texts s heap lines).lines)

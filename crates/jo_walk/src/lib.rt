@@ -1,9 +1,9 @@
-//! Runs a script of the small form over the slow heap, by a walk over its tree.
+//! Runs a script of the small form over the slow heap, by a walk over its steps.
 #![tactic(auto)]
 
-mod item;
-mod script;
+mod form;
+mod step;
 #[cfg(test)]
 mod tests;
 
-pub use script::{Walked, walk};
+pub use form::{Walked, walk};
