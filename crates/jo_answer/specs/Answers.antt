@@ -14,18 +14,21 @@ use Rattle.jo_form.specs.declared.form.Step.{Step}
 use Rattle.jo_form.specs.declared.form.TheConstants.{MOST_FORM_BYTES}
 use Rattle.jo_form.specs.Forms.{form_of}
 use Rattle.jo_set.specs.Sets.{IsSet, IsRefusal}
-use Rattle.jo_answer.specs.declared.answer.TheConstants.{DEFAULT_TURNS}
-use Rattle.jo_answer.specs.declared.answer.Verdict.{Verdict}
-use Rattle.jo_answer.specs.declared.answer.Verdict.TheVariants as verdict
+use Rattle.jo_answer.specs.declared.due.TheConstants.{DEFAULT_TURNS}
+use Rattle.jo_answer.specs.declared.due.Verdict.{Verdict}
+use Rattle.jo_answer.specs.declared.due.Verdict.TheVariants as verdict
 use Rattle.jo_answer.specs.Lines.{refusal_line, not_built_line, size_line}
 
--- the program runs this set so far: it is one script of the small form, in few bytes
-pub record IsBuilt (bytes : List ℕ) (scripts : List Items) (texts : Table) : Type 0 where
+-- the program runs this set so far: it is one script of the small form, with these steps, in so few bytes
+pub record IsForm (bytes : ℕ) (scripts : List Items) (texts : Table) (steps : List Step) : Type 0 where
   pub script : Items
-  pub steps : List Step
   pub alone : scripts ≡ script ∷ []
-  pub small : length bytes ≤ MOST_FORM_BYTES
+  pub small : bytes ≤ MOST_FORM_BYTES
   pub form : form_of texts script ≡ Some steps
+
+-- the program runs it, whatever the steps are
+abbrev pub IsBuilt : ℕ → List Items → Table → Type 0
+IsBuilt bytes scripts texts = (steps : List Step) × IsForm bytes scripts texts steps
 
 -- The text is the output of these scripts in one legal history, in which they come to these outcomes.
 pub record IsOutputOf (scripts : List Items) (texts : Table) (outcomes : List Outcome) (text : List ℕ) : Type 0 where
@@ -37,14 +40,18 @@ abbrev pub is_done : Outcome → Bool
 is_done outcome.Done = true
 is_done _ = false
 
--- The bytes are an accepted set, the text is its output, and each script is done, or some script is not.
+-- the text is the output of these scripts, and each of them is done, or some is not
+pub record IsRunOf (well : Bool) (scripts : List Items) (texts : Table) (text : List ℕ) : Type 0 where
+  pub outcomes : List Outcome
+  pub output_is : IsOutputOf scripts texts outcomes text
+  pub ends : list_all is_done outcomes ≡ well
+
+-- the bytes are an accepted set, and the text is the output of its scripts
 pub record IsRun (well : Bool) (bytes text : List ℕ) : Type 0 where
   pub scripts : List Items
   pub texts : Table
-  pub outcomes : List Outcome
   pub set : IsSet bytes scripts texts
-  pub output_is : IsOutputOf scripts texts outcomes text
-  pub ends : list_all is_done outcomes ≡ well
+  pub run : IsRunOf well scripts texts text
 
 -- the bytes are refused, and the text says for what and where
 pub record IsRefused (bytes text : List ℕ) : Type 0 where
@@ -57,7 +64,7 @@ pub record IsNotBuilt (bytes text : List ℕ) : Type 0 where
   pub scripts : List Items
   pub texts : Table
   pub set : IsSet bytes scripts texts
-  pub unbuilt : IsBuilt bytes scripts texts → ⊥
+  pub unbuilt : IsBuilt (length bytes) scripts texts → ⊥
   pub line : text ≡ not_built_line
 
 -- what is said of these bytes, and the text that is due for them
@@ -67,9 +74,34 @@ IsDue verdict.EndedWithFaults bytes text = IsRun false bytes text
 IsDue verdict.Refused bytes text = IsRefused bytes text ⊎ IsNotBuilt bytes text
 IsDue verdict.TooLarge bytes text = (MOST_INPUT < length bytes) × (text ≡ size_line)
 
+-- an input that is refused, or an accepted set that the program does not run so far
+abbrev pub IsRefusedInput : List ℕ → Type 0
+IsRefusedInput bytes =
+    ((refusal : Refusal) × IsRefusal bytes refusal)
+    ⊎ ((scripts : List Items) × (texts : Table) × IsSet bytes scripts texts × (IsBuilt (length bytes) scripts texts → ⊥))
+
 -- an input that the program runs so far
 pub record IsRunnable (bytes : List ℕ) : Type 0 where
   pub scripts : List Items
   pub texts : Table
   pub set : IsSet bytes scripts texts
-  pub built : IsBuilt bytes scripts texts
+  pub built : IsBuilt (length bytes) scripts texts
+
+-- ---- what private functions do by these words
+
+abbrev pub verdict_of : Outcome → Verdict
+verdict_of outcome.Done = verdict.Done
+verdict_of _ = verdict.EndedWithFaults
+
+-- the output of scripts that were run
+abbrev pub IsRunBy : Verdict → List Items → Table → List ℕ → Type 0
+IsRunBy verdict.Done scripts texts text = IsRunOf true scripts texts text
+IsRunBy verdict.EndedWithFaults scripts texts text = IsRunOf false scripts texts text
+IsRunBy _ scripts texts text = ⊥
+
+-- the answer to an accepted set that was read from so many bytes
+abbrev pub IsDueForSet : ℕ → List Items → Table → Verdict → List ℕ → Type 0
+IsDueForSet bytes scripts texts verdict.Done text = IsRunOf true scripts texts text
+IsDueForSet bytes scripts texts verdict.EndedWithFaults text = IsRunOf false scripts texts text
+IsDueForSet bytes scripts texts verdict.Refused text = (IsBuilt bytes scripts texts → ⊥) × (text ≡ not_built_line)
+IsDueForSet bytes scripts texts verdict.TooLarge text = ⊥

@@ -1,8 +1,16 @@
-use Rattle.std.proofs.Common.{Err, ap, arith}
-use Rattle.jsobj.proofs.Inputs.{no_input}
+use Rattle.jsobj.proofs.Inputs.{refused_at, runs_at}
 use Rattle.jsobj.proofs.run.run.Goals as goal
 
-pub returns-in-Err-Refused-clause-refused_input : goal.returns-in-Err-Refused-clause-refused_input
-returns-in-Err-Refused-clause-refused_input g c = λ is.
-    no_input _ _ c.deref.result.now (rw c.deref.ensures.value c.in-Ok.ensures.read) (λ few. c.in-Ok.ensures.whole (omega (arith, few, c.deref.ensures.len)))
-    (c.in-Err-Refused.ensures.refused (ap Err c.in-Err-Refused.field-0-is))
+pub returns-in-Ok-answer_to-clause-refused_input : goal.returns-in-Ok-answer_to-clause-refused_input
+returns-in-Ok-answer_to-clause-refused_input g c =
+    let answer = c.in-Ok-answer_to in
+    refused_at (g.S.Source.left c.args.source.now) (g.S.Source.left c.read_all.new.source) answer.answer.verdict c.deref.result.now answer.answer.text.items c.status_of.result _
+    (rw c.deref.ensures.value c.in-Ok.ensures.read) answer.ensures.whole (rw c.deref.ensures.value c.in-Ok.ensures.whole) answer.ensures.due
+    c.status_of.ensures c.finish-in-Ok-answer_to.ensures.answer
+
+pub returns-in-Ok-answer_to-clause-runnable : goal.returns-in-Ok-answer_to-clause-runnable
+returns-in-Ok-answer_to-clause-runnable g c = λ run_words read_fine write_fine.
+    let answer = c.in-Ok-answer_to in
+    runs_at _ (g.S.Source.left c.args.source.now) (g.S.Source.left c.read_all.new.source) answer.answer.verdict c.deref.result.now answer.answer.text.items c.status_of.result _
+    (rw c.deref.ensures.value c.in-Ok.ensures.read) answer.ensures.whole (rw c.deref.ensures.value c.in-Ok.ensures.whole) answer.ensures.due
+    c.status_of.ensures c.finish-in-Ok-answer_to.ensures.answer c.finish-in-Ok-answer_to.ensures.cause write_fine

@@ -1,10 +1,10 @@
 // The answer to an input.
-ghost use Rattle.std.specs.Prelude.{◌≡◌, ◌≤◌, ◌+◌, ◌×◌, [], ◌∷◌, length, IfOk, IfSome, IfNone, Some};
+ghost use Rattle.std.specs.Prelude.{◌≡◌, ◌≤◌, [], ◌∷◌, length, IfOk, IfSome, IfNone, Some};
 ghost use Rattle.jo_value.specs.declared.limits.TheConstants.{MOST_INPUT};
-ghost use Rattle.jo_tree.specs.ScriptViews.{script_tree};
-ghost use Rattle.jo_set.specs.Sets.{IsSet};
+ghost use Rattle.jo_tree.specs.Trees.{Items};
 ghost use Rattle.jo_form.specs.Forms.{form_of};
-ghost use Rattle.jo_answer.specs.Answers.{IsBuilt, IsDue};
+ghost use Rattle.jo_parse.specs.Parsed.{trees_of};
+ghost use Rattle.jo_answer.specs.Answers.{IsBuilt, IsDue, IsDueForSet, IsForm, IsRunBy, verdict_of};
 
 use crate::lines::{NOT_BUILT_LINE, SIZE_LINE, refusal_line};
 use jo_form::{Form, MOST_FORM_BYTES, form_of};
@@ -39,14 +39,18 @@ pub struct Answer {
 }
 
 /// The answer to an input, of which a byte more than the most may be given.
-pub fn answer(alloc: Global, bytes: &[u8]) -> Result<Answer, AllocError>
-    ensures { IfOk result (λ answer. IsDue answer.verdict bytes.now answer.text.items) }
+pub fn answer_to(alloc: Global, bytes: &[u8]) -> Result<Answer, AllocError>
+    ensures whole { IfOk result (λ answer. (answer.verdict ≡ Verdict.TooLarge → ⊥) → length bytes.now ≤ MOST_INPUT) }
+    ensures due { IfOk result (λ answer. IsDue answer.verdict bytes.now answer.text.items) }
 {
     if bytes.len() > MOST_INPUT {
         return line(alloc, Verdict::TooLarge, SIZE_LINE);
     }
     match parse_set(alloc, bytes) {
-        Ok(set) => answer_to_set(alloc, bytes.len(), &set),
+        Ok(set) => {
+            let answer = answer_to_set(alloc, bytes.len(), &set)?;
+            Ok(answer)
+        }
         Err(ParseFault::Refused(refusal)) => Ok(Answer {
             verdict: Verdict::Refused,
             text: refusal_line(alloc, refusal)?,
@@ -68,7 +72,7 @@ fn line(alloc: Global, verdict: Verdict, line: &[u8]) -> Result<Answer, AllocErr
 
 // The answer to an accepted set that was read from so many bytes.
 fn answer_to_set(alloc: Global, length: usize, set: &ScriptSet) -> Result<Answer, AllocError>
-    ensures { IfOk result (λ answer. IsDueForSet length set.now.scripts set.now.texts answer.verdict answer.text.items) }
+    ensures { IfOk result (λ answer. IsDueForSet length (trees_of set.now) set.now.1 answer.verdict answer.text.items) }
 {
     match form_in(alloc, length, set)? {
         Some(form) => output(alloc, &form, set.texts()),
@@ -78,18 +82,20 @@ fn answer_to_set(alloc: Global, length: usize, set: &ScriptSet) -> Result<Answer
 
 // The small form of a set, where it has it.
 fn form_in(alloc: Global, length: usize, set: &ScriptSet) -> Result<Option<Form>, AllocError>
-    ensures some { IfOk result (λ form. IfSome form (λ form. IsForm length set.now.scripts set.now.texts form.steps)) }
-    ensures none { IfOk result (λ form. IfNone form (IsNoForm length set.now.scripts set.now.texts)) }
+    ensures some { IfOk result (λ form. IfSome form (λ form. IsForm length (trees_of set.now) set.now.1 form.steps)) }
+    ensures none { IfOk result (λ form. IfNone form (IsBuilt length (trees_of set.now) set.now.1 → ⊥)) }
 {
     if set.len() > 1 || length > MOST_FORM_BYTES {
         return Ok(None);
     }
-    form_of(alloc, set.script(0), set.texts())
+    let form = form_of(alloc, set.script(0), set.texts())?;
+    Ok(form)
 }
 
 // The output of a script of the small form.
 fn output(alloc: Global, form: &Form, texts: &Texts) -> Result<Answer, AllocError>
-    ensures { IfOk result (λ answer. IsAnswerOf form.now.steps texts.now answer.verdict answer.text.items) }
+    ensures { IfOk result (λ answer. (script : Items) → form_of texts.now script ≡ Some form.now.steps
+        → IsRunBy answer.verdict (script ∷ []) texts.now answer.text.items) }
 {
     let walked = walk(alloc, form, texts)?;
     let mut text = Vec::new(alloc);

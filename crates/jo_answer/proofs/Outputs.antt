@@ -1,0 +1,62 @@
+-- The output text of a script that ran alone.
+use Rattle.std.proofs.Common.{◌≡◌, ℕ, List, [], ◌∷◌, ◌++◌, refl, sym, ap, ◌∙◌}
+use Rattle.std.proofs.lemmas.List.{append-nil}
+use Rattle.jo_value.specs.Texts.{Table}
+use Rattle.jo_tree.specs.Trees.{Items}
+use Rattle.jo_model.specs.declared.call.Outcome.{Outcome}
+use Rattle.jo_model.specs.declared.call.Outcome.TheVariants as outcome
+use Rattle.jo_model.specs.Heaps.{Heap}
+use Rattle.jo_model.specs.History.{History, heap_after}
+use Rattle.jo_model.specs.Rendered.{outcome_text, run_text, heap_text}
+use Rattle.jo_meaning.specs.Runs.{Ended}
+use Rattle.jo_meaning.specs.Histories.{IsHistoryOf, run_in, played_alone}
+use Rattle.jo_meaning.specs.Output.{stand_text}
+use Rattle.jo_walk.specs.Alone.{IsRunAlone}
+use Rattle.jo_answer.specs.declared.due.TheConstants.{DEFAULT_TURNS}
+use Rattle.jo_answer.specs.Answers.{IsOutputOf, IsRunBy, verdict_of}
+
+-- where the one script of a history stands
+stand_alone : (script : Items) (texts : Table) (turns : ℕ) (w : History) (o : Outcome) → IsHistoryOf (script ∷ []) texts turns (o ∷ []) w
+    → (run_in w 1 script texts turns).stand ≡ Ended o
+stand_alone script texts turns w o of_script =
+    let run = of_script.each 0 script refl in
+    let same : o ≡ run.0 = cc (run.1) in
+    run.2.ended ∙ ap Ended (sym same)
+
+-- the text of its lines and its outcome, and then that of the objects
+output_alone : (script : Items) (texts : Table) (heap : Heap) (lines : List ℕ) (o : Outcome) (start first text : List ℕ)
+    → IsRunAlone script texts DEFAULT_TURNS heap lines o
+    → start ≡ [] → first ≡ start ++ run_text 1 lines (outcome_text o) → text ≡ first ++ heap_text texts heap → IsOutputOf (script ∷ []) texts (o ∷ []) text
+output_alone script texts heap lines o start first text run empty ran all =
+    let w = (played_alone script texts DEFAULT_TURNS).history in
+    let made = run_in w 1 script texts DEFAULT_TURNS in
+    let objects = heap_text texts (heap_after 2 w) in
+    record {
+      history = w;
+      of_scripts = run.of_script;
+      text_is =
+          all
+          ∙ ap (λ t. t ++ heap_text texts heap) (ran ∙ ap (λ t. t ++ run_text 1 lines (outcome_text o)) empty)
+          ∙ ap (λ h. run_text 1 lines (outcome_text o) ++ heap_text texts h) run.heap_is
+          ∙ ap (λ l. run_text 1 l (outcome_text o) ++ objects) run.lines_are
+          ∙ ap (λ s. run_text 1 made.lines (stand_text s) ++ objects) (sym (stand_alone script texts DEFAULT_TURNS w o run.of_script))
+          ∙ ap (λ t. t ++ objects) (sym (append-nil (run_text 1 made.lines (stand_text made.stand))));
+    }
+
+run_by : (script : Items) (texts : Table) (o : Outcome) (text : List ℕ) → IsOutputOf (script ∷ []) texts (o ∷ []) text → IsRunBy (verdict_of o) (script ∷ []) texts text
+run_by script texts outcome.Done text h = record { outcomes = outcome.Done ∷ []; output_is = h; ends = refl }
+run_by script texts outcome.TypeFault text h = record { outcomes = outcome.TypeFault ∷ []; output_is = h; ends = refl }
+run_by script texts outcome.NotSafe text h = record { outcomes = outcome.NotSafe ∷ []; output_is = h; ends = refl }
+run_by script texts outcome.KeyOutside text h = record { outcomes = outcome.KeyOutside ∷ []; output_is = h; ends = refl }
+run_by script texts outcome.TurnsSpent text h = record { outcomes = outcome.TurnsSpent ∷ []; output_is = h; ends = refl }
+run_by script texts outcome.OutputFull text h = record { outcomes = outcome.OutputFull ∷ []; output_is = h; ends = refl }
+run_by script texts outcome.TooManyNames text h = record { outcomes = outcome.TooManyNames ∷ []; output_is = h; ends = refl }
+run_by script texts outcome.ObjectsSpent text h = record { outcomes = outcome.ObjectsSpent ∷ []; output_is = h; ends = refl }
+run_by script texts outcome.Spent text h = record { outcomes = outcome.Spent ∷ []; output_is = h; ends = refl }
+
+pub answer_alone : (script : Items) (texts : Table) (heap : Heap) (lines : List ℕ) (o : Outcome) (start first text : List ℕ)
+    → IsRunAlone script texts DEFAULT_TURNS heap lines o
+    → start ≡ [] → first ≡ start ++ run_text 1 lines (outcome_text o) → text ≡ first ++ heap_text texts heap
+    → IsRunBy (verdict_of o) (script ∷ []) texts text
+answer_alone script texts heap lines o start first text run empty ran all =
+    run_by script texts o text (output_alone script texts heap lines o start first text run empty ran all)
