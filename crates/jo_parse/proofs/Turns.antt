@@ -6,6 +6,8 @@ use Rattle.jo_value.specs.declared.limits.TheConstants.{MOST_INPUT, MOST_OPEN}
 use Rattle.jo_value.specs.Texts.{Table}
 use Rattle.jo_lex.specs.declared.token.Token.{Token}
 use Rattle.jo_lex.specs.declared.refusal.Refusal.{Refusal}
+use Rattle.jo_lex.specs.declared.refusal.ParseFault.{ParseFault}
+use Rattle.jo_lex.specs.declared.refusal.ParseFault.TheVariants.{Memory, Refused}
 use Rattle.jo_lex.specs.Tokens.{IsRead}
 use Rattle.jo_lex.specs.Tokens as lexed
 use Rattle.jo_tree.specs.declared.script.Script.{Script}
@@ -13,11 +15,12 @@ use Rattle.jo_tree.specs.ScriptViews.{script_tree}
 use Rattle.jo_tree.specs.Trees.{Items}
 use Rattle.jo_grammar.specs.Statements.{IsScript}
 use Rattle.jo_grammar.specs.Refusals.{IsAccepted}
+use Rattle.jo_syntax.specs.Parsed.{IsFault}
 use Rattle.jo_syntax.specs.Terminals.{terminals_of}
 use Rattle.jo_pieces.specs.declared.piece.Piece.{Piece as Part}
 use Rattle.jo_pieces.specs.Cuts.{Piece, piece_of, parts_of}
 use Rattle.jo_set.specs.Sets.{begun, AreRead, IsUnread, AreScripts, IsMisspelled, IsFirstMisspelled}
-use Rattle.jo_parse.specs.Stages.{AreWithin, lists_of}
+use Rattle.jo_parse.specs.Stages.{AreWithin, IsTreeFault, lists_of}
 use Rattle.jo_parse.proofs.Within.{views_left, none_left}
 
 -- ---- tokens
@@ -96,6 +99,14 @@ module _ {Z : Type 0} (texts : Table) (all lists : List (Vec Token Z)) (i : ℕ)
       let turn = subst (λ v. Spells texts (lists_of all) v (map script_tree scripts)) (views_left (λ v. v.items) lists i d h) r in
       let done : map script_tree longer ≡ map script_tree scripts ++ script_tree script ∷ [] = ap (map script_tree) e ∙ map-append script_tree scripts (script ∷ []) in
       subst (λ v. Spells texts (lists_of all) rest v) (sym done) (one_spelled texts (lists_of all) (get_or lists i d).items rest (map script_tree scripts) turn (script_tree script) is)
+
+  pub spell_fault : Spells texts (lists_of all) (lists_of (drop i lists)) (map script_tree scripts) → i < length lists
+      → (d : Vec Token Z) (fault : ParseFault) → IsFault IsScript (get_or lists i d).items (terminals_of texts (get_or lists i d).items) fault → IsTreeFault texts (lists_of all) fault
+  spell_fault r h d Memory is = tt
+  spell_fault r h d (Refused refusal) is =
+      let rest = lists_of (drop (i + 1) lists) in
+      let turn = subst (λ v. Spells texts (lists_of all) v (map script_tree scripts)) (views_left (λ v. v.items) lists i d h) r in
+      one_misspelled texts (lists_of all) (get_or lists i d).items rest (map script_tree scripts) turn refusal is
 
   pub spell_end : Spells texts (lists_of all) (lists_of (drop i lists)) (map script_tree scripts) → length lists ≤ i → AreScripts texts (lists_of all) (map script_tree scripts)
   spell_end r h =
