@@ -6,3 +6,8 @@ pub mod TokensInTable
 pub mod ListsInTable
 pub mod TerminalsInTable
 pub mod SetsAreSound
+pub mod Stages
+pub mod ReadOnce
+pub mod SpelledOnce
+pub mod SetStages
+pub mod OneAnswer
