@@ -1,8 +1,7 @@
 -- How the text of a set is cut into its scripts.
-use Rattle.std.specs.Prelude.{◌≡◌, ℕ, ◌+◌, ◌<◌, ◌-◌, ◌==◌, ◌||◌, Bool, if◌then◌else◌, List, [], ◌∷◌, ◌++◌, length, map, slice_get, Some, codes}
+use Rattle.std.specs.Prelude.{◌≡◌, ℕ, ◌+◌, ◌<◌, ◌≤◌, ◌-◌, ◌==◌, ◌||◌, Bool, if◌then◌else◌, List, [], ◌∷◌, ◌++◌, length, map, slice_get, Some, codes}
 use Rattle.std.specs.Str.{bytes_eq}
 use Rattle.jo_value.specs.declared.limits.TheConstants.{MOST_SCRIPTS}
-use Rattle.jo_lex.specs.declared.refusal.Refusal.{Refusal}
 use Rattle.jo_lex.specs.declared.refusal.RefusalKind.TheVariants.{TooManyScripts}
 use Rattle.jo_lex.specs.declared.refusal.ParseFault.{ParseFault}
 use Rattle.jo_lex.specs.declared.refusal.ParseFault.TheVariants.{Memory, Refused}
@@ -45,6 +44,11 @@ pieces_from start text (line ∷ lines) =
     then record { start = start; text = text } ∷ pieces_from (start + length text + length line) [] lines
     else pieces_from start (text ++ line) lines
 
+-- each of the scripts ends at the bound or before it
+abbrev pub AreWithin : ℕ → List Piece → Type 0
+AreWithin bound [] = Unit {0}
+AreWithin bound (piece ∷ pieces) = (end_of piece ≤ bound) × AreWithin bound pieces
+
 -- the scripts of a set
 abbrev pub pieces_of : List ℕ → List Piece
 pieces_of text = pieces_from 0 [] (lines_of text)
@@ -61,6 +65,10 @@ piece_of part = record { start = part.start; text = part.text.now }
 
 abbrev pub parts_of : List Part → List Piece
 parts_of parts = map piece_of parts
+
+-- the refusal at the end of the last script that a set may have
+abbrev pub one_too_many : Piece → ParseFault
+one_too_many piece = Refused (record { kind = TooManyScripts; place = end_of piece })
 
 -- want of memory, or a script too many
 abbrev pub IsCutFault : List ℕ → ParseFault → Type 0

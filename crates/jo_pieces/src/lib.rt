@@ -2,5 +2,7 @@
 #![tactic(auto)]
 
 mod piece;
+#[cfg(test)]
+mod tests;
 
 pub use piece::{Piece, pieces};
