@@ -8,7 +8,7 @@ use Rattle.jo_lex.specs.declared.refusal.ParseFault.TheVariants.{Memory, Refused
 use Rattle.jo_tree.specs.Trees.{Items}
 use Rattle.jo_set.specs.Sets.{IsSet, IsRefusal}
 use Rattle.jo_parse.specs.Parsed.{Parsed, Gives, IsFault, Refuses}
-use Rattle.jo_parse.proofs.Pending.{one_set, set_or_refused, one_refusal}
+use Rattle.jo_set.proofs.OneAnswer.{one_set, set_or_refused, one_refusal}
 
 module _ (bytes : List ℕ) where
   pub complete : (answer : Result Parsed ParseFault) → IfOk answer (λ set. IsSet bytes set.scripts set.texts) → IfErr answer (IsFault bytes)

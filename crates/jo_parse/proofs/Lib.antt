@@ -1,7 +1,6 @@
 pub mod Answered
 pub mod Faults
 pub mod LexFaults
-pub mod Pending
 pub mod Scripts
 pub mod Turns
 pub mod Within

@@ -18,9 +18,9 @@ use Rattle.jo_grammar.specs.Refusals.{IsAccepted}
 use Rattle.jo_syntax.specs.Parsed.{IsFault}
 use Rattle.jo_syntax.specs.Terminals.{terminals_of}
 use Rattle.jo_pieces.specs.declared.piece.Piece.{Piece as Part}
-use Rattle.jo_pieces.specs.Cuts.{Piece, piece_of, parts_of}
+use Rattle.jo_pieces.specs.Cuts.{Piece, piece_of, parts_of, AreWithin}
 use Rattle.jo_set.specs.Sets.{begun, AreRead, IsUnread, AreScripts, IsMisspelled, IsFirstMisspelled}
-use Rattle.jo_parse.specs.Stages.{AreWithin, IsTreeFault, lists_of}
+use Rattle.jo_parse.specs.Stages.{IsTreeFault, lists_of}
 use Rattle.jo_parse.proofs.Within.{views_left, none_left}
 
 -- ---- tokens

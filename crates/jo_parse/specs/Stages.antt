@@ -1,5 +1,5 @@
 -- What private functions do by the words of jo_set.
-use Rattle.std.specs.Prelude.{◌≡◌, ℕ, ◌≤◌, List, [], ◌∷◌, map, Some, Vec}
+use Rattle.std.specs.Prelude.{◌≡◌, List, map, Some, Vec}
 use Rattle.jo_value.specs.Texts.{Table}
 use Rattle.jo_lex.specs.declared.token.Token.{Token}
 use Rattle.jo_lex.specs.declared.refusal.ParseFault.{ParseFault}
@@ -7,17 +7,12 @@ use Rattle.jo_lex.specs.declared.refusal.ParseFault.TheVariants.{Memory, Refused
 use Rattle.jo_tree.specs.Trees.{Items}
 use Rattle.jo_scope.specs.Declarations.{Found, first_of_faults}
 use Rattle.jo_judge.specs.Judged.{refusal_for}
-use Rattle.jo_pieces.specs.Cuts.{Piece, end_of}
+use Rattle.jo_pieces.specs.Cuts.{Piece}
 use Rattle.jo_set.specs.Sets.{IsUnread, IsFirstMisspelled, faults_of_all}
 
 -- the lists of tokens that the code holds
 abbrev pub lists_of : {Z : Type 0} → List (Vec Token Z) → List (List Token)
 lists_of lists = map (λ list. list.items) lists
-
--- each script ends before so many bytes or there
-abbrev pub AreWithin : ℕ → List Piece → Type 0
-AreWithin most [] = Unit {0}
-AreWithin most (piece ∷ pieces) = (end_of piece ≤ most) × AreWithin most pieces
 
 -- want of memory, or the refusal of the first script that is not read
 abbrev pub IsLexFault : Table → List Piece → ParseFault → Type 0
