@@ -1,5 +1,5 @@
 -- A call answers exactly, since a set of bytes has one answer.
-use Rattle.std.proofs.Common.{◌≡◌, ℕ, List, Result, Ok, Err}
+use Rattle.std.proofs.Common.{ℕ, List, Result, Ok, Err}
 use Rattle.std.specs.Prelude.{IfOk, IfErr}
 use Rattle.jo_value.specs.Texts.{Table}
 use Rattle.jo_lex.specs.declared.refusal.Refusal.{Refusal}

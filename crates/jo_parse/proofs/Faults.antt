@@ -1,5 +1,5 @@
 -- What the stages are refused for, as refusals of the bytes.
-use Rattle.std.proofs.Common.{◌≡◌, ◌∙◌, sym, ap, subst, ℕ, List, [], ◌∷◌, Some}
+use Rattle.std.proofs.Common.{◌≡◌, sym, ap, subst, ℕ, List, [], ◌∷◌, Some}
 use Rattle.std.proofs.Math.Logic.{inl, inr}
 use Rattle.jo_value.specs.Texts.{Table}
 use Rattle.jo_lex.specs.declared.token.Token.{Token}
@@ -14,8 +14,8 @@ use Rattle.jo_syntax.specs.Parsed.{kind_of}
 use Rattle.jo_scope.specs.Declarations.{ScopeFault, undeclared, twice, Found, first_of_faults}
 use Rattle.jo_judge.specs.Judged as judged
 use Rattle.jo_judge.specs.Judged.{refusal_for}
-use Rattle.jo_pieces.specs.Cuts.{Piece, pieces_of}
-use Rattle.jo_set.specs.Sets.{IsUnread, IsFirstMisspelled, IsCut, IsLexed, IsParsed, IsRefusal, IsRefusalOf, faults_of_all}
+use Rattle.jo_pieces.specs.Cuts.{pieces_of}
+use Rattle.jo_set.specs.Sets.{IsUnread, IsFirstMisspelled, IsCut, IsLexed, IsParsed, IsRefusalOf, faults_of_all}
 use Rattle.jo_parse.specs.Parsed.{IsFault}
 use Rattle.jo_parse.specs.Stages.{IsLexFault, IsTreeFault, IsFirstNameFault}
 use Rattle.jo_parse.proofs.LexFaults.{IsLexKind, is_lex_kind}

@@ -1,5 +1,5 @@
 -- Which faults the lexer gives.
-use Rattle.std.proofs.Common.{◌≡◌, subst, Bool, true, false, ℕ, ◌==◌, ◌||◌, ◌&&◌, List, [], ◌∷◌, length, drop, Option, Some, None}
+use Rattle.std.proofs.Common.{subst, Bool, true, false, ℕ, ◌==◌, ◌||◌, List, [], ◌∷◌, length, drop, Option, Some, None}
 use Rattle.std.proofs.Math.Logic.{inl, inr}
 use Rattle.std.specs.List.{take_while}
 use Rattle.std.specs.Str.{encode_utf8_all}
@@ -11,10 +11,10 @@ use Rattle.jo_lex.specs.declared.refusal.Refusal.{Refusal}
 use Rattle.jo_lex.specs.declared.refusal.RefusalKind.{RefusalKind}
 use Rattle.jo_lex.specs.declared.refusal.RefusalKind.TheVariants as kind
 use Rattle.jo_lex.specs.declared.punct.Punct.{Punct}
-use Rattle.jo_lex.specs.Characters.{Characters, begins_with, is_spoiler, is_word_start, is_word_part, is_digit, is_blank, is_in_line, drop_while}
+use Rattle.jo_lex.specs.Characters.{Characters, begins_with, is_spoiler, is_word_start, is_word_part, is_digit, is_blank, drop_while}
 use Rattle.jo_lex.specs.Punctuators.{Entry, punctuator_of}
 use Rattle.jo_lex.specs.Pieces.{Lexeme, word, number, text, Piece, gap, lexeme, fault, after_close, closed, comment, limited, word_piece, quoted, text_piece, judged, decimal, number_piece, accepted, punctuator_piece, token_piece, piece}
-use Rattle.jo_lex.specs.Tokens.{State, Next, ended, refused, onward, with_token, taken, next_of, next, last, kind_of, IsRead, IsRefused}
+use Rattle.jo_lex.specs.Tokens.{State, Next, ended, refused, onward, with_token, taken, next_of, last, kind_of}
 use Rattle.jo_pieces.specs.Cuts as cuts
 use Rattle.jo_set.specs.Sets.{begun, IsUnread}
 

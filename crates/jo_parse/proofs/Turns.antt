@@ -38,9 +38,10 @@ module _ (start : Table) (scripts : List Piece) (here : Table) (piece : Piece) (
   pub one_read : Reads start scripts here (piece ∷ rest) done → (tokens : List Token) (after : Table) → IsRead (begun here piece) tokens after
       → Reads start scripts after rest (done ++ tokens ∷ [])
   one_read r tokens after h = record {
-      within = r.within.1;
-      read = λ lists end g. subst (λ v. AreRead start scripts v end) (sym (append_assoc done (tokens ∷ []) lists)) (r.read (tokens ∷ lists) end (after, h, g));
-      unread = λ refusal g. r.unread refusal (inr (tokens, after, h, g)) }
+    within = r.within.1;
+    read = λ lists end g. subst (λ v. AreRead start scripts v end) (sym (append_assoc done (tokens ∷ []) lists)) (r.read (tokens ∷ lists) end (after, h, g));
+    unread = λ refusal g. r.unread refusal (inr (tokens, after, h, g));
+  }
 
   pub one_unread : Reads start scripts here (piece ∷ rest) done → (refusal : Refusal) (after : Table) → lexed.IsRefused (begun here piece) refusal after
       → IsUnread start scripts refusal
@@ -80,8 +81,9 @@ module _ (texts : Table) (lists : List (List Token)) (tokens : List Token) (rest
   pub one_spelled : Spells texts lists (tokens ∷ rest) done → (script : Items) → IsAccepted IsScript MOST_OPEN (terminals_of texts tokens) script
       → Spells texts lists rest (done ++ script ∷ [])
   one_spelled r script h = record {
-      spelled = λ scripts g. subst (λ v. AreScripts texts lists v) (sym (append_assoc done (script ∷ []) scripts)) (r.spelled (script ∷ scripts) (h, g));
-      misspelled = λ refusal g. r.misspelled refusal (inr (script, h, g)) }
+    spelled = λ scripts g. subst (λ v. AreScripts texts lists v) (sym (append_assoc done (script ∷ []) scripts)) (r.spelled (script ∷ scripts) (h, g));
+    misspelled = λ refusal g. r.misspelled refusal (inr (script, h, g));
+  }
 
   pub one_misspelled : Spells texts lists (tokens ∷ rest) done → (refusal : Refusal) → IsMisspelled texts tokens refusal → IsFirstMisspelled texts lists refusal
   one_misspelled r refusal h = r.misspelled refusal (inl h)

@@ -169,6 +169,7 @@ mutual
 
 mutual
   unfolding tree_wood tree_back
+
   tree_same : (x : Tree) → tree_back (tree_wood x) ≡ x
   tree_same (t.number n) = refl
   tree_same (t.literal x) = refl
@@ -297,6 +298,7 @@ head_same (t.begins e) = λ i. t.begins (optional_same e i)
 
 mutual
   unfolding statement_wood statement_back
+
   statement_same : (x : Statement) → statement_back (statement_wood x) ≡ x
   statement_same t.empty = refl
   statement_same (t.block items) = λ i. t.block (items_same items i)

@@ -20,11 +20,7 @@ pub(crate) struct Spelled {
     pub(crate) texts: Texts,
 }
 
-fn scripts(
-    alloc: Global,
-    lists: &[Vec<Token>],
-    texts: &Texts,
-) -> Result<Vec<Script>, ParseFault>
+fn scripts(alloc: Global, lists: &[Vec<Token>], texts: &Texts) -> Result<Vec<Script>, ParseFault>
     ensures ok { IfOk result (λ scripts.
         AreScripts texts.now (lists_of lists.now) (map script_tree scripts.items)) }
     ensures refused { IfErr result (IsTreeFault texts.now (lists_of lists.now)) }

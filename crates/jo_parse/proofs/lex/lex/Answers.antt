@@ -1,4 +1,4 @@
-use Rattle.std.proofs.Common.{◌∙◌, sym, ap, subst, rules, length, []}
+use Rattle.std.proofs.Common.{◌∙◌, sym, ap, subst, rules, length}
 use Rattle.jo_value.specs.declared.limits.TheConstants.{MOST_INPUT}
 use Rattle.jo_pieces.specs.Cuts.{AreWithin, parts_of, pieces_of}
 use Rattle.jo_parse.specs.Parsed.{IsFault}
@@ -21,5 +21,5 @@ returns-in_err-lists-clause-refused c =
     let same = ap parts_of c.as_slice.ensures.value ∙ c.in_ok-pieces.ensures.parts in
     let h = subst (λ v. IsLexFault c.new-texts.result v fault) same c.in_err-lists.ensures.refused in
     let refused : IsFault bytes fault =
-        lex_fault bytes fault c.in_ok-pieces.ensures.ok (subst (λ v. IsLexFault v (pieces_of bytes) fault) c.new-texts.ensures h) in
+    lex_fault bytes fault c.in_ok-pieces.ensures.ok (subst (λ v. IsLexFault v (pieces_of bytes) fault) c.new-texts.ensures h) in
     search rules

@@ -1,4 +1,3 @@
-use Rattle.std.proofs.Common.{rules}
 use Rattle.jo_parse.proofs.Answered.{complete, first}
 use Rattle.jo_parse.proofs.reader.parse_set.Goals as goal
 

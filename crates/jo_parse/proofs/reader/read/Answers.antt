@@ -1,4 +1,4 @@
-use Rattle.std.proofs.Common.{◌≡◌, ◌≤◌, subst, [], length, map, rules, arith}
+use Rattle.std.proofs.Common.{◌≡◌, ◌≤◌, subst, [], length, map, arith}
 use Rattle.std.proofs.lemmas.List.{length-map}
 use Rattle.jo_value.specs.declared.limits.TheConstants.{MOST_SCRIPTS}
 use Rattle.jo_tree.specs.ScriptViews.{script_tree}

@@ -32,6 +32,6 @@ returns-in_err-script-clause-refused c =
     let tokens = c.as_slice.ensures.value ∙ ap (λ v. v.items) c.tokens-item.is in
     let is = subst (λ v. IsFault IsScript v (terminals_of texts v) fault) tokens c.in_err-script.ensures.refused in
     let refused : IsTreeFault texts (lists_of c.args.lists.now) fault =
-        spell_fault texts c.args.lists.now c.args.lists.now c.loop-tokens.tokens-index c.loop-tokens.scripts.items
-        c.loop-tokens.invariant c.loop-tokens-test.true c.tokens-item.result fault is in
+    spell_fault texts c.args.lists.now c.args.lists.now c.loop-tokens.tokens-index c.loop-tokens.scripts.items
+    c.loop-tokens.invariant c.loop-tokens-test.true c.tokens-item.result fault is in
     search rules

@@ -1,4 +1,4 @@
-use Rattle.std.proofs.Common.{◌∙◌, sym, ap, subst, ◌<◌, length, arith, rules}
+use Rattle.std.proofs.Common.{sym, subst, ◌<◌, length, arith, rules}
 use Rattle.std.proofs.lemmas.Grind.{common_steps}
 use Rattle.jo_tree.specs.ScriptViews.{script_tree}
 use Rattle.jo_scope.specs.Sound.{IsSound}
