@@ -1,8 +1,6 @@
-pub mod Runs
-pub mod Digits
-pub mod Tables
-pub mod Spelling
-pub mod Taken
+pub mod Answered
+pub mod Faults
+pub mod LexFaults
+pub mod Scripts
 pub mod Turns
-pub mod Again
-pub mod Whole
+pub mod Within

@@ -1,125 +1,116 @@
--- Reading in turns: with enough turns their number does not matter, and one turn is one step of a loop.
-use Rattle.std.proofs.Common.{◌≡◌, ◌∙◌, ℕ, zero, suc, ◌<◌, true, false, List, [], ◌∷◌, ◌++◌, codes, length, Option, Some, None, refl, sym, ap, arith}
+-- The loops over the scripts of a set: what is done so far, and what the rest adds to it.
+use Rattle.std.proofs.Common.{◌≡◌, ◌∙◌, sym, ap, subst, refl, ℕ, ◌+◌, ◌<◌, ◌≤◌, List, [], ◌∷◌, ◌++◌, length, map, drop, get_or, Vec, append_assoc, append-nil}
+use Rattle.std.proofs.lemmas.List.{map-append}
+use Rattle.std.proofs.Math.Logic.{inl, inr}
+use Rattle.jo_value.specs.declared.limits.TheConstants.{MOST_INPUT, MOST_OPEN}
 use Rattle.jo_value.specs.Texts.{Table}
-use Rattle.jo_model.specs.declared.script.Item.{Item}
-use Rattle.jo_model.specs.declared.script.Read.{Read}
-use Rattle.jo_parse.specs.declared.script.ParseFault.{ParseFault}
-use Rattle.jo_parse.specs.declared.script.ParseFault.TheVariants.{Memory, Refused}
-use Rattle.jo_parse.specs.Reading.{◌>>=◌, Fails, after_token, read_at, next_read, more_reads, reads_at, item_at, is_at_end, next_item, more_items, items_at}
-use Rattle.jo_parse.proofs.Spelling.{Takes-le, after_token_takes}
-use Rattle.jo_parse.proofs.Taken.{read_shorter, item_shorter}
+use Rattle.jo_lex.specs.declared.token.Token.{Token}
+use Rattle.jo_lex.specs.declared.refusal.Refusal.{Refusal}
+use Rattle.jo_lex.specs.declared.refusal.ParseFault.{ParseFault}
+use Rattle.jo_lex.specs.declared.refusal.ParseFault.TheVariants.{Memory, Refused}
+use Rattle.jo_lex.specs.Tokens.{IsRead}
+use Rattle.jo_lex.specs.Tokens as lexed
+use Rattle.jo_tree.specs.declared.script.Script.{Script}
+use Rattle.jo_tree.specs.ScriptViews.{script_tree}
+use Rattle.jo_tree.specs.Trees.{Items}
+use Rattle.jo_grammar.specs.Statements.{IsScript}
+use Rattle.jo_grammar.specs.Refusals.{IsAccepted}
+use Rattle.jo_syntax.specs.Parsed.{IsFault}
+use Rattle.jo_syntax.specs.Terminals.{terminals_of}
+use Rattle.jo_pieces.specs.declared.piece.Piece.{Piece as Part}
+use Rattle.jo_pieces.specs.Cuts.{Piece, piece_of, parts_of, AreWithin}
+use Rattle.jo_set.specs.Sets.{begun, AreRead, IsUnread, AreScripts, IsMisspelled, IsFirstMisspelled}
+use Rattle.jo_parse.specs.Stages.{IsTreeFault, lists_of}
+use Rattle.jo_parse.proofs.Within.{views_left, none_left}
 
--- ---- reads
+-- ---- tokens
 
-abbrev ReadsAt : Type 0
-ReadsAt = List Read → Table → List ℕ → Option (List Read × Table × List ℕ)
+-- all scripts are read from a table; up to a rest they are, into lists and a table
+pub record Reads (start : Table) (scripts : List Piece) (here : Table) (rest : List Piece) (done : List (List Token)) : Type 0 where
+  pub within : AreWithin MOST_INPUT rest
+  pub read : (lists : List (List Token)) (end : Table) → AreRead here rest lists end → AreRead start scripts (done ++ lists) end
+  pub unread : (refusal : Refusal) → IsUnread here rest refusal → IsUnread start scripts refusal
 
-read_same : (more other : ReadsAt) (reads : List Read) (o : Option (Read × Table × List ℕ)) → ((x : Read × Table × List ℕ) → o ≡ Some x → more (reads ++ x.0 ∷ []) x.1 x.2 ≡ other (reads ++ x.0 ∷ []) x.1 x.2)
-    → (o >>= λ x. more (reads ++ x.0 ∷ []) x.1 x.2) ≡ (o >>= λ x. other (reads ++ x.0 ∷ []) x.1 x.2)
-read_same more other reads None same = refl
-read_same more other reads (Some x) same = same x refl
+pub none_read : (start : Table) (scripts : List Piece) → AreWithin MOST_INPUT scripts → Reads start scripts start scripts []
+none_read start scripts w = record { within = w; read = λ lists end h. h; unread = λ refusal h. h }
 
-next_same : (more other : ReadsAt) (reads : List Read) (texts : Table) (o : Option (List ℕ)) (text : List ℕ) → ((rest : List ℕ) (x : Read × Table × List ℕ) → o ≡ Some rest → read_at texts rest ≡ Some x → more (reads ++ x.0 ∷ []) x.1 x.2 ≡ other (reads ++ x.0 ∷ []) x.1 x.2)
-    → next_read more reads texts o text ≡ next_read other reads texts o text
-next_same more other reads texts None text same = refl
-next_same more other reads texts (Some rest) text same = read_same more other reads (read_at texts rest) (λ x e. same rest x refl e)
+module _ (start : Table) (scripts : List Piece) (here : Table) (piece : Piece) (rest : List Piece) (done : List (List Token)) where
+  pub one_read : Reads start scripts here (piece ∷ rest) done → (tokens : List Token) (after : Table) → IsRead (begun here piece) tokens after
+      → Reads start scripts after rest (done ++ tokens ∷ [])
+  one_read r tokens after h = record {
+    within = r.within.1;
+    read = λ lists end g. subst (λ v. AreRead start scripts v end) (sym (append_assoc done (tokens ∷ []) lists)) (r.read (tokens ∷ lists) end (after, h, g));
+    unread = λ refusal g. r.unread refusal (inr (tokens, after, h, g));
+  }
 
-pub comma_shorter : (texts : Table) (text rest : List ℕ) (x : Read × Table × List ℕ) → after_token (codes ",") text ≡ Some rest → read_at texts rest ≡ Some x → length x.2 < length text
-comma_shorter texts text rest x e r =
-    omega (arith, Takes-le (codes "," ∷ []) text rest (after_token_takes (codes ",") text rest e), read_shorter texts rest x r)
+  pub one_unread : Reads start scripts here (piece ∷ rest) done → (refusal : Refusal) (after : Table) → lexed.IsRefused (begun here piece) refusal after
+      → IsUnread start scripts refusal
+  one_unread r refusal after h = r.unread refusal (inl (after, h))
 
-more_reads_same : (m n : ℕ) (reads : List Read) (texts : Table) (text : List ℕ) → length text < m → length text < n → more_reads m reads texts text ≡ more_reads n reads texts text
-unfolding more_reads
-more_reads_same zero n reads texts text few enough = absurd (omega arith)
-more_reads_same (suc m) zero reads texts text few enough = absurd (omega arith)
-more_reads_same (suc m) (suc n) reads texts text few enough =
-    next_same (more_reads m) (more_reads n) reads texts (after_token (codes ",") text) text (λ rest x e r.
-    let shorter = comma_shorter texts text rest x e r in
-    more_reads_same m n (reads ++ x.0 ∷ []) x.1 x.2 (omega arith) (omega arith))
+pub all_read : (start : Table) (scripts : List Piece) (here : Table) (done : List (List Token)) → Reads start scripts here [] done → AreRead start scripts done here
+all_read start scripts here done r = subst (λ v. AreRead start scripts v here) (append-nil done) (r.read [] here refl)
 
-first_read : (texts made : Table) (text rest : List ℕ) (read : Read) → read_at texts text ≡ Some (read, made, rest) → more_reads (suc (length rest)) (read ∷ []) made rest ≡ reads_at texts text
-unfolding reads_at
-first_read texts made text rest read e = rw e refl
+-- the same at a turn of the loop, and behind the last
+module _ {Z : Type 0} (start : Table) (scripts : List Piece) (here : Table) (pieces : List Part) (i : ℕ) (lists : List (Vec Token Z)) where
+  pub read_turn : Reads start scripts here (parts_of (drop i pieces)) (lists_of lists) → i < length pieces
+      → (d : Part) (list : Vec Token Z) (after : Table) → IsRead (begun here (piece_of (get_or pieces i d))) list.items after
+      → (longer : List (Vec Token Z)) → longer ≡ lists ++ list ∷ [] → Reads start scripts after (parts_of (drop (i + 1) pieces)) (lists_of longer)
+  read_turn r h d list after is longer e =
+      let piece = piece_of (get_or pieces i d) in
+      let rest = parts_of (drop (i + 1) pieces) in
+      let turn = subst (λ v. Reads start scripts here v (lists_of lists)) (views_left piece_of pieces i d h) r in
+      let done : lists_of longer ≡ lists_of lists ++ list.items ∷ [] = ap lists_of e ∙ map-append (λ v. v.items) lists (list ∷ []) in
+      subst (λ v. Reads start scripts after rest v) (sym done) (one_read start scripts here piece rest (lists_of lists) turn list.items after is)
 
--- what reading on gives, if it gives what it gave behind the first read, is what reading from the start gives
-pub from_first : (reads : List Read) (first : Read) (texts made : Table) (text rest : List ℕ) (now : Option (List Read × Table × List ℕ)) → read_at texts text ≡ Some (first, made, rest) → reads ≡ first ∷ [] → now ≡ more_reads (suc (length rest)) reads made rest → now ≡ reads_at texts text
-from_first reads first texts made text rest now e is same =
-    same ∙ ap (λ (r : List Read). more_reads (suc (length rest)) r made rest) is ∙ first_read texts made text rest first e
+  pub read_end : Reads start scripts here (parts_of (drop i pieces)) (lists_of lists) → length pieces ≤ i → AreRead start scripts (lists_of lists) here
+  read_end r h =
+      all_read start scripts here (lists_of lists)
+      (subst (λ v. Reads start scripts here v (lists_of lists)) (ap parts_of (none_left pieces i h)) r)
 
-pub first_fails : (fault : ParseFault) (texts : Table) (text : List ℕ) → Fails fault (read_at texts text) → Fails fault (reads_at texts text)
-unfolding reads_at
-first_fails Memory texts text e = tt
-first_fails Refused texts text e = rw e refl
+-- ---- trees
 
-pub reads_end : (turns : ℕ) (reads : List Read) (texts : Table) (text : List ℕ) → None ≡ after_token (codes ",") text → more_reads (suc turns) reads texts text ≡ Some (reads, texts, text)
-unfolding more_reads
-reads_end turns reads texts text e = rw (← e) refl
+-- all lists of tokens spell trees; up to a rest they do
+pub record Spells (texts : Table) (lists : List (List Token)) (rest : List (List Token)) (done : List Items) : Type 0 where
+  pub spelled : (scripts : List Items) → AreScripts texts rest scripts → AreScripts texts lists (done ++ scripts)
+  pub misspelled : (refusal : Refusal) → IsFirstMisspelled texts rest refusal → IsFirstMisspelled texts lists refusal
 
-pub next_fails : (fault : ParseFault) (turns : ℕ) (reads : List Read) (texts : Table) (text rest : List ℕ) → Some rest ≡ after_token (codes ",") text → Fails fault (read_at texts rest) → Fails fault (more_reads (suc turns) reads texts text)
-unfolding more_reads
-next_fails Memory turns reads texts text rest e fails = tt
-next_fails Refused turns reads texts text rest e fails = rw (← e, fails) refl
+pub none_spelled : (texts : Table) (lists : List (List Token)) → Spells texts lists lists []
+none_spelled texts lists = record { spelled = λ scripts h. h; misspelled = λ refusal h. h }
 
-pub record IsNextRead (reads : List Read) (texts : Table) (text : List ℕ) (next : Read) (made : Table) (behind : List ℕ) : Type 0 where
-  pub shorter : length behind < length text
-  pub same : more_reads (suc (length behind)) (reads ++ next ∷ []) made behind ≡ more_reads (suc (length text)) reads texts text
+module _ (texts : Table) (lists : List (List Token)) (tokens : List Token) (rest : List (List Token)) (done : List Items) where
+  pub one_spelled : Spells texts lists (tokens ∷ rest) done → (script : Items) → IsAccepted IsScript MOST_OPEN (terminals_of texts tokens) script
+      → Spells texts lists rest (done ++ script ∷ [])
+  one_spelled r script h = record {
+    spelled = λ scripts g. subst (λ v. AreScripts texts lists v) (sym (append_assoc done (script ∷ []) scripts)) (r.spelled (script ∷ scripts) (h, g));
+    misspelled = λ refusal g. r.misspelled refusal (inr (script, h, g));
+  }
 
-pub next_reads : (reads : List Read) (texts made : Table) (text rest behind : List ℕ) (next : Read) → Some rest ≡ after_token (codes ",") text → read_at texts rest ≡ Some (next, made, behind) → IsNextRead reads texts text next made behind
-unfolding more_reads
-next_reads reads texts made text rest behind next e r =
-    let shorter = comma_shorter texts text rest (next, made, behind) (sym e) r in
-    let turn : more_reads (suc (length text)) reads texts text ≡ more_reads (length text) (reads ++ next ∷ []) made behind = rw (← e, r) refl in
-    record {
-      shorter = shorter;
-      same = more_reads_same (suc (length behind)) (length text) (reads ++ next ∷ []) made behind (omega arith) shorter ∙ sym turn;
-    }
+  pub one_misspelled : Spells texts lists (tokens ∷ rest) done → (refusal : Refusal) → IsMisspelled texts tokens refusal → IsFirstMisspelled texts lists refusal
+  one_misspelled r refusal h = r.misspelled refusal (inl h)
 
--- ---- items
+pub all_spelled : (texts : Table) (lists : List (List Token)) (done : List Items) → Spells texts lists [] done → AreScripts texts lists done
+all_spelled texts lists done r = subst (λ v. AreScripts texts lists v) (append-nil done) (r.spelled [] tt)
 
-abbrev ItemsAt : Type 0
-ItemsAt = List Item → Table → List ℕ → Option (List Item × Table)
+-- the same at a turn of the loop, and behind the last
+module _ {Z : Type 0} (texts : Table) (all lists : List (Vec Token Z)) (i : ℕ) (scripts : List Script) where
+  pub spell_turn : Spells texts (lists_of all) (lists_of (drop i lists)) (map script_tree scripts) → i < length lists
+      → (d : Vec Token Z) (script : Script) → IsAccepted IsScript MOST_OPEN (terminals_of texts (get_or lists i d).items) (script_tree script)
+      → (longer : List Script) → longer ≡ scripts ++ script ∷ [] → Spells texts (lists_of all) (lists_of (drop (i + 1) lists)) (map script_tree longer)
+  spell_turn r h d script is longer e =
+      let rest = lists_of (drop (i + 1) lists) in
+      let turn = subst (λ v. Spells texts (lists_of all) v (map script_tree scripts)) (views_left (λ v. v.items) lists i d h) r in
+      let done : map script_tree longer ≡ map script_tree scripts ++ script_tree script ∷ [] = ap (map script_tree) e ∙ map-append script_tree scripts (script ∷ []) in
+      subst (λ v. Spells texts (lists_of all) rest v) (sym done) (one_spelled texts (lists_of all) (get_or lists i d).items rest (map script_tree scripts) turn (script_tree script) is)
 
-next_item_same : (more other : ItemsAt) (items : List Item) (texts : Table) (text : List ℕ) → more items texts text ≡ other items texts text → next_item more items texts text ≡ next_item other items texts text
-next_item_same more other items texts text same = rw same refl
+  pub spell_fault : Spells texts (lists_of all) (lists_of (drop i lists)) (map script_tree scripts) → i < length lists
+      → (d : Vec Token Z) (fault : ParseFault) → IsFault IsScript (get_or lists i d).items (terminals_of texts (get_or lists i d).items) fault → IsTreeFault texts (lists_of all) fault
+  spell_fault r h d Memory is = tt
+  spell_fault r h d (Refused refusal) is =
+      let rest = lists_of (drop (i + 1) lists) in
+      let turn = subst (λ v. Spells texts (lists_of all) v (map script_tree scripts)) (views_left (λ v. v.items) lists i d h) r in
+      one_misspelled texts (lists_of all) (get_or lists i d).items rest (map script_tree scripts) turn refusal is
 
-item_same : (more other : ItemsAt) (items : List Item) (o : Option (Item × Table × List ℕ)) → ((x : Item × Table × List ℕ) → o ≡ Some x → more (items ++ x.0 ∷ []) x.1 x.2 ≡ other (items ++ x.0 ∷ []) x.1 x.2)
-    → (o >>= λ x. next_item more (items ++ x.0 ∷ []) x.1 x.2) ≡ (o >>= λ x. next_item other (items ++ x.0 ∷ []) x.1 x.2)
-item_same more other items None same = refl
-item_same more other items (Some x) same = next_item_same more other (items ++ x.0 ∷ []) x.1 x.2 (same x refl)
-
-more_items_same : (m n : ℕ) (items : List Item) (texts : Table) (text : List ℕ) → length text < m → length text < n → more_items m items texts text ≡ more_items n items texts text
-unfolding more_items
-more_items_same zero n items texts text few enough = absurd (omega arith)
-more_items_same (suc m) zero items texts text few enough = absurd (omega arith)
-more_items_same (suc m) (suc n) items texts text few enough =
-    item_same (more_items m) (more_items n) items (item_at texts text) (λ x e.
-    let shorter = item_shorter texts text x e in
-    more_items_same m n (items ++ x.0 ∷ []) x.1 x.2 (omega arith) (omega arith))
-
--- what reading on gives, if it gives what it gave at the start, is what reading all gives
-pub from_start : (items : List Item) (texts : Table) (text : List ℕ) (now : Option (List Item × Table)) → items ≡ [] → texts ≡ [] → now ≡ more_items (suc (length text)) items texts text → now ≡ items_at text
-from_start items texts text now none empty same =
-    same ∙ ap (λ (i : List Item). more_items (suc (length text)) i texts text) none ∙ ap (λ (t : Table). more_items (suc (length text)) [] t text) empty
-
-pub item_fails : (fault : ParseFault) (turns : ℕ) (items : List Item) (texts : Table) (text : List ℕ) → Fails fault (item_at texts text) → Fails fault (more_items (suc turns) items texts text)
-unfolding more_items
-item_fails Memory turns items texts text e = tt
-item_fails Refused turns items texts text e = rw e refl
-
-pub items_end : (turns : ℕ) (items : List Item) (texts made : Table) (text behind : List ℕ) (next : Item) → item_at texts text ≡ Some (next, made, behind) → is_at_end behind ≡ true → more_items (suc turns) items texts text ≡ Some (items ++ next ∷ [], made)
-unfolding more_items
-items_end turns items texts made text behind next e ends = rw (e, ends) refl
-
-pub record IsNextItem (items : List Item) (texts : Table) (text : List ℕ) (next : Item) (made : Table) (behind : List ℕ) : Type 0 where
-  pub shorter : length behind < length text
-  pub same : more_items (suc (length behind)) (items ++ next ∷ []) made behind ≡ more_items (suc (length text)) items texts text
-
-pub next_items : (items : List Item) (texts made : Table) (text behind : List ℕ) (next : Item) → item_at texts text ≡ Some (next, made, behind) → is_at_end behind ≡ false → IsNextItem items texts text next made behind
-unfolding more_items
-next_items items texts made text behind next e goes_on =
-    let shorter = item_shorter texts text (next, made, behind) e in
-    let turn : more_items (suc (length text)) items texts text ≡ more_items (length text) (items ++ next ∷ []) made behind = rw (e, goes_on) refl in
-    record {
-      shorter = shorter;
-      same = more_items_same (suc (length behind)) (length text) (items ++ next ∷ []) made behind (omega arith) shorter ∙ sym turn;
-    }
+  pub spell_end : Spells texts (lists_of all) (lists_of (drop i lists)) (map script_tree scripts) → length lists ≤ i → AreScripts texts (lists_of all) (map script_tree scripts)
+  spell_end r h =
+      all_spelled texts (lists_of all) (map script_tree scripts)
+      (subst (λ v. Spells texts (lists_of all) v (map script_tree scripts)) (ap lists_of (none_left lists i h)) r)

@@ -1,11 +1,15 @@
-//! From bytes to the tree of a script of the small form.
+//! From the bytes of a set of scripts to its trees and the table of its texts, or to the first refusal.
 #![tactic(auto)]
 
-mod items;
-mod script;
-mod tokens;
-
-pub use script::{MOST_BYTES, ParseFault, Parsed, parse_script};
-
+mod cut;
+mod lex;
+mod named;
+mod reader;
+mod set;
+mod spell;
 #[cfg(test)]
 mod tests;
+
+pub use jo_lex::{ParseFault, Refusal, RefusalKind};
+pub use reader::parse_set;
+pub use set::ScriptSet;

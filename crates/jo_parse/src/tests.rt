@@ -1,125 +1,114 @@
-use super::*;
-use jo_model::{Item, Read};
-use jo_value::TextId;
+// Sets of scripts, with ample memory.
+ghost use Rattle.std.specs.Prelude.{◌≤◌, length};
+
+use crate::{ParseFault, Refusal, RefusalKind, parse_set};
 use std::alloc::{AllocError, Global};
-use std::test::*;
+use std::process::Abort;
+use std::test::Fail;
 
-const ACCEPTED: [&[u8]; 10] = [
-    b"shared.x=1;",
-    b" \t\r\nshared \t\r\n. \t\r\nx \t\r\n= \t\r\n1 \t\r\n; \t\r\n",
-    b" \t\r\nprint \t\r\n( \t\r\nshared \t\r\n. \t\r\nx \t\r\n, \t\r\nshared.y \t\r\n) \t\r\n; \t\r\n",
-    b"shared.x=0;",
-    b"shared.x=10;",
-    b"shared.x=9007199254740991;",
-    b"shared.$=1;shared._=2;shared.A9=3;shared.z$_0=4;",
-    b"shared.shared=1;shared.print=2;",
-    b"print(shared.x,shared.x,shared.x);",
-    b"print(shared.x);shared.x=1;print(shared.x);",
-];
-
-const REFUSED: [&[u8]; 28] = [
-    b"",
-    b" \t\r\n",
-    b"shared.x=1",
-    b"shared.x=1;;",
-    b"shared.x=1;x",
-    b"shared.x=;",
-    b"shared.x=01;",
-    b"shared.x=00;",
-    b"shared.x=9007199254740992;",
-    b"shared.x=18446744073709551617;",
-    b"shared.x=100000000000000000000000000000000;",
-    b"shared.x=+1;",
-    b"shared.x=-1;",
-    b"shared.x=1 2;",
-    b"shared.x=1.0;",
-    b"shared.x y=1;",
-    b"shared.9x=1;",
-    b"shared.=1;",
-    b"shared.\xc3\xa9=1;",
-    b"\xa0shared.x=1;",
-    b"\x0cshared.x=1;",
-    b"shar ed.x=1;",
-    b"other.x=1;",
-    b"print();",
-    b"print(shared.x,);",
-    b"print(shared.x shared.y);",
-    b"print(shared.x)",
-    b"print shared.x;",
-];
-
-fn is_refused(alloc: Global, bytes: &[u8]) -> bool {
-    matches!(parse_script(alloc, bytes), Err(ParseFault::Refused))
+#[derive(Clone, Copy, Debug, PartialEq, Eq)]
+enum Outcome {
+    // So many scripts.
+    Accepted(u8),
+    Refused(RefusalKind, u32),
+    Memory,
 }
 
-// A put of each of so many names.
-fn puts(alloc: Global, count: usize) -> Result<String, AllocError> {
-    let mut text = String::new(alloc);
-    for i in 0..count {
-        let put = format!(in alloc; "shared.n{i}=1;")?;
-        text.push_str(put.as_str())?;
+fn answer(alloc: Global, bytes: &[u8]) -> Outcome
+    requires { length bytes.now ≤ 1048576 }
+{
+    match parse_set(alloc, bytes) {
+        Ok(set) => Outcome::Accepted(set.len()),
+        Err(ParseFault::Refused(Refusal { kind, place })) => Outcome::Refused(kind, place),
+        Err(ParseFault::Memory) => Outcome::Memory,
     }
-    Ok(text)
 }
 
-// A put of a name of so many bytes, and so many blanks.
-fn put(alloc: Global, name: usize, blanks: usize) -> Result<Vec<u8>, AllocError> {
-    let mut text = Vec::from_slice(alloc, b"shared.".as_slice())?;
-    for _ in 0..name {
-        text.push(b'x')?;
-    }
-    text.extend_from_slice(b"=1;")?;
-    for _ in 0..blanks {
-        text.push(b' ')?;
-    }
-    Ok(text)
+// The text, and a byte that is in no UTF-8.
+fn spoiled(alloc: Global, text: &str) -> Result<Vec<u8>, AllocError> {
+    let mut bytes = Vec::new(alloc);
+    bytes.extend_from_slice(text.as_bytes())?;
+    bytes.push(0xff)?;
+    Ok(bytes)
 }
 
 #[test]
-fn the_form_is_read_and_nothing_else(rt: HostRuntime) {
-    for bytes in ACCEPTED {
-        assert!(rt; parse_script(rt.alloc(), bytes).is_ok(), "{bytes:?}");
+fn sets_are_accepted_or_refused_at_a_place(rt: HostRuntime) -> Result<(), Fail> {
+    let bad = RefusalKind::BadToken;
+    let unexpected = RefusalKind::Unexpected;
+    let undeclared = RefusalKind::Undeclared;
+    let twice = RefusalKind::Twice;
+    let large = RefusalKind::NumberTooLarge;
+    let rows = [
+        ("let a = 1;\n%%\nprint(2);", Outcome::Accepted(2)),
+        ("%%", Outcome::Accepted(2)),
+        (";", Outcome::Accepted(1)),
+        ("", Outcome::Refused(RefusalKind::NoScript, 0)),
+        ("shared.x = ", Outcome::Refused(unexpected, 11)),
+        ("1.5;", Outcome::Refused(bad, 0)),
+        ("let a = 9007199254740992;", Outcome::Refused(large, 8)),
+        ("let a = 1; let a = 2;", Outcome::Refused(twice, 15)),
+        ("let a; print(a); let a;", Outcome::Refused(twice, 21)),
+        ("print(b);", Outcome::Refused(undeclared, 6)),
+        ("let a = a;", Outcome::Refused(undeclared, 8)),
+        (
+            "let a = 1; { print(a); let a = 2; }",
+            Outcome::Refused(undeclared, 19),
+        ),
+        ("let a;\n%%\nprint(a);", Outcome::Refused(undeclared, 16)),
+        // The stages come one after another, each over all scripts.
+        ("print(b);\n%%\n1.5;", Outcome::Refused(bad, 13)),
+        (
+            "let = 1;\n%%\n9007199254740992;",
+            Outcome::Refused(large, 12),
+        ),
+        ("print(b);\n%%\nlet = 1;", Outcome::Refused(unexpected, 17)),
+    ];
+    for (set, want) in rows {
+        assert!(rt; set.len() < 100);
+        assert_eq!(rt; answer(rt.alloc(), set.as_bytes()), want, "{set}");
     }
-    for bytes in REFUSED {
-        assert!(rt; is_refused(rt.alloc(), bytes), "{bytes:?}");
-    }
-}
-
-#[test]
-fn limits_hold_from_both_sides(rt: HostRuntime) -> Result<(), Fail> {
-    let alloc = rt.alloc();
-    assert!(rt; parse_script(alloc, puts(alloc, 64)?.as_bytes()).is_ok());
-    assert!(rt; is_refused(alloc, puts(alloc, 65)?.as_bytes()));
-    assert!(rt; parse_script(alloc, &put(alloc, 255, 0)?).is_ok());
-    assert!(rt; is_refused(alloc, &put(alloc, 256, 0)?));
-    assert!(rt; parse_script(alloc, &put(alloc, 1, MOST_BYTES - 11)?).is_ok());
-    assert!(rt; is_refused(alloc, &put(alloc, 1, MOST_BYTES - 10)?));
     Ok(())
 }
 
 #[test]
-fn a_name_has_one_number_wherever_it_stands(rt: HostRuntime) -> Result<(), Fail> {
-    let parsed = parse_script(rt.alloc(), b"shared.x=7;print(shared.total,shared.x);")?;
-    assert_eq!(rt; parsed.texts.len(), 2);
-    assert_eq!(rt; parsed.texts.bytes(TextId(0)), b"x".as_slice());
-    assert_eq!(rt; parsed.texts.bytes(TextId(1)), b"total".as_slice());
-    let items = parsed.script.items.as_slice();
-    assert_eq!(rt; items.len(), 2);
-    match &items[0] {
-        Item::Put { name, number } => {
-            assert_eq!(rt; name.0, 0);
-            assert_eq!(rt; *number, 7);
-        }
-        Item::Print(_) => assert!(rt; false),
+fn scripts_and_constructs_are_bounded(rt: HostRuntime) -> Result<(), Fail> {
+    let deep = RefusalKind::NestedTooDeep;
+    let rows = [
+        ("%%\n", 7, Outcome::Accepted(8)),
+        ("%%\n", 8, Outcome::Refused(RefusalKind::TooManyScripts, 21)),
+        ("(", 64, Outcome::Refused(RefusalKind::Unexpected, 64)),
+        ("(", 65, Outcome::Refused(deep, 64)),
+        ("if(1)", 65, Outcome::Refused(deep, 317)),
+    ];
+    for (front, times, want) in rows {
+        let set = front.repeat(rt.alloc(), times)?;
+        assert!(rt; set.len() < 1000);
+        assert_eq!(rt; answer(rt.alloc(), set.as_str().as_bytes()), want, "{set}");
     }
-    match &items[1] {
-        Item::Put { .. } => assert!(rt; false),
-        Item::Print(reads) => {
-            let reads: &[Read] = reads.as_slice();
-            assert_eq!(rt; reads.len(), 2);
-            assert_eq!(rt; reads[0].name.0, 1);
-            assert_eq!(rt; reads[1].name.0, 0);
-        }
+    Ok(())
+}
+
+#[test]
+fn bytes_that_are_no_text_are_refused_first(rt: HostRuntime) -> Result<(), Fail> {
+    let rows = [("let a = \"", 9), ("%%\n%%\n%%\n%%\n%%\n%%\n%%\n%%\n", 24)];
+    for (front, place) in rows {
+        let bytes = spoiled(rt.alloc(), front)?;
+        assert!(rt; bytes.len() < 100);
+        let want = Outcome::Refused(RefusalKind::NotUtf8, place);
+        assert_eq!(rt; answer(rt.alloc(), bytes.as_slice()), want, "{front}");
     }
+    Ok(())
+}
+
+#[test]
+fn a_set_has_its_scripts_in_order(rt: HostRuntime) -> Result<(), Fail> {
+    let set = parse_set(rt.alloc(), "let a;\n%%\n;;\n%%\nlet a; let b; ;".as_bytes())?;
+    assert_eq!(rt; set.len(), 3);
+    assert!(rt; 2 < set.len());
+    assert_eq!(rt; set.script(0).items.len(), 1);
+    assert_eq!(rt; set.script(1).items.len(), 2);
+    assert_eq!(rt; set.script(2).items.len(), 3);
+    assert_eq!(rt; set.texts().len(), 3);
     Ok(())
 }

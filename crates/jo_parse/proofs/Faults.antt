@@ -1,0 +1,64 @@
+-- What the stages are refused for, as refusals of the bytes.
+use Rattle.std.proofs.Common.{◌≡◌, sym, ap, subst, ℕ, List, [], ◌∷◌, Some}
+use Rattle.std.proofs.Math.Logic.{inl, inr}
+use Rattle.jo_value.specs.Texts.{Table}
+use Rattle.jo_lex.specs.declared.token.Token.{Token}
+use Rattle.jo_lex.specs.declared.refusal.Refusal.{Refusal}
+use Rattle.jo_lex.specs.declared.refusal.RefusalKind.{RefusalKind}
+use Rattle.jo_lex.specs.declared.refusal.RefusalKind.TheVariants as kind
+use Rattle.jo_lex.specs.declared.refusal.ParseFault.{ParseFault}
+use Rattle.jo_lex.specs.declared.refusal.ParseFault.TheVariants.{Memory, Refused}
+use Rattle.jo_tree.specs.Trees.{Items}
+use Rattle.jo_grammar.specs.Refusals.{Fault, unexpected, too_deep}
+use Rattle.jo_syntax.specs.Parsed.{kind_of}
+use Rattle.jo_scope.specs.Declarations.{ScopeFault, undeclared, twice, Found, first_of_faults}
+use Rattle.jo_judge.specs.Judged as judged
+use Rattle.jo_judge.specs.Judged.{refusal_for}
+use Rattle.jo_pieces.specs.Cuts.{pieces_of}
+use Rattle.jo_set.specs.Sets.{IsUnread, IsFirstMisspelled, IsCut, IsLexed, IsParsed, IsRefusalOf, faults_of_all}
+use Rattle.jo_parse.specs.Parsed.{IsFault}
+use Rattle.jo_parse.specs.Stages.{IsLexFault, IsTreeFault, IsFirstNameFault}
+use Rattle.jo_parse.proofs.LexFaults.{IsLexKind, is_lex_kind}
+
+-- ---- tokens
+
+unread : (bytes : List ℕ) (refusal : Refusal) (k : RefusalKind) → IsLexKind k → IsCut bytes × IsUnread [] (pieces_of bytes) refusal → IsRefusalOf bytes k refusal
+unread bytes refusal kind.BadToken is h = h
+unread bytes refusal kind.NumberTooLarge is h = h
+unread bytes refusal kind.TooManyTexts is h = h
+unread bytes refusal _ is h = absurd is
+
+pub lex_fault : (bytes : List ℕ) (fault : ParseFault) → IsCut bytes → IsLexFault [] (pieces_of bytes) fault → IsFault bytes fault
+lex_fault bytes Memory cut h = tt
+lex_fault bytes (Refused refusal) cut h = unread bytes refusal refusal.kind (is_lex_kind [] (pieces_of bytes) refusal h) (cut, h)
+
+-- ---- trees
+
+fault_of : (texts : Table) (lists : List (List Token)) (refusal : Refusal) → IsFirstMisspelled texts lists refusal → (fault : Fault) × (refusal.kind ≡ kind_of fault)
+fault_of texts [] refusal h = absurd h
+fault_of texts (tokens ∷ lists) refusal (inl (fault, rest, is, e)) = (fault, ap (λ v. v.kind) e)
+fault_of texts (tokens ∷ lists) refusal (inr (script, is, h)) = fault_of texts lists refusal h
+
+misspelled : (bytes : List ℕ) (lists : List (List Token)) (texts : Table) (refusal : Refusal) (fault : Fault)
+    → IsLexed bytes lists texts → IsFirstMisspelled texts lists refusal → IsRefusalOf bytes (kind_of fault) refusal
+misspelled bytes lists texts refusal unexpected l h = (lists, texts, l, h)
+misspelled bytes lists texts refusal too_deep l h = (lists, texts, l, h)
+
+pub tree_fault : (bytes : List ℕ) (lists : List (List Token)) (texts : Table) (fault : ParseFault) → IsLexed bytes lists texts → IsTreeFault texts lists fault → IsFault bytes fault
+tree_fault bytes lists texts Memory l h = tt
+tree_fault bytes lists texts (Refused refusal) l h =
+    let f = fault_of texts lists refusal h in
+    subst (λ k. IsRefusalOf bytes k refusal) (sym f.1) (misspelled bytes lists texts refusal f.0 l h)
+
+-- ---- names
+
+named : (bytes : List ℕ) (scripts : List Items) (texts : Table) (refusal : Refusal) (found : Found) (fault : ScopeFault)
+    → IsParsed bytes scripts texts → first_of_faults (faults_of_all scripts) ≡ Some found → refusal ≡ refusal_for found
+    → IsRefusalOf bytes (judged.kind_of fault) refusal
+named bytes scripts texts refusal found undeclared p first e = (scripts, texts, p, found, first, e)
+named bytes scripts texts refusal found twice p first e = (scripts, texts, p, found, first, e)
+
+pub name_fault : (bytes : List ℕ) (scripts : List Items) (texts : Table) (fault : ParseFault) → IsParsed bytes scripts texts → IsFirstNameFault scripts fault → IsFault bytes fault
+name_fault bytes scripts texts Memory p h = tt
+name_fault bytes scripts texts (Refused refusal) p (found, first, e) =
+    subst (λ k. IsRefusalOf bytes k refusal) (sym (ap (λ v. v.kind) e)) (named bytes scripts texts refusal found found.0 p first e)

@@ -1,0 +1,66 @@
+// From the texts of the scripts to their tokens.
+ghost use Rattle.std.specs.Prelude.{◌≡◌, ◌≤◌, length, IfErr, IfOk};
+ghost use Rattle.jo_value.specs.declared.limits.TheConstants.{MOST_INPUT};
+ghost use Rattle.jo_pieces.specs.Cuts.{AreWithin, parts_of};
+ghost use Rattle.jo_set.specs.Sets.{AreRead, IsLexed, is_nothing};
+ghost use Rattle.jo_parse.specs.Parsed.{IsFault};
+ghost use Rattle.jo_parse.specs.Stages.{IsLexFault, lists_of};
+
+use crate::cut::cut;
+use jo_lex::{ParseFault, Refusal, RefusalKind, Token, tokens};
+use jo_pieces::Piece;
+use jo_value::Texts;
+use std::alloc::Global;
+
+/// The tokens of each script, and the table of their texts.
+#[derive(Drop)]
+pub(crate) struct Lexed {
+    pub(crate) lists: Vec<Vec<Token>>,
+    pub(crate) texts: Texts,
+}
+
+// Reads the scripts one after another into one table.
+fn token_lists(
+    alloc: Global,
+    pieces: &[Piece<'_>],
+    texts: &mut Texts,
+) -> Result<Vec<Vec<Token>>, ParseFault>
+    requires { AreWithin MOST_INPUT (parts_of pieces.now) }
+    ensures ok { IfOk result (λ lists.
+        AreRead texts.old (parts_of pieces.now) (lists_of lists.items) texts.new) }
+    ensures refused { IfErr result (IsLexFault texts.old (parts_of pieces.now)) }
+{
+    let mut lists = Vec::new(alloc);
+    for piece in pieces {
+        let found = tokens(alloc, piece.text, piece.start, texts)?;
+        if lists.push(found).is_err() {
+            return Err(ParseFault::Memory);
+        }
+    }
+    Ok(lists)
+}
+
+// Whether there is one script, and it has no token but its end.
+fn is_nothing(lists: &[Vec<Token>]) -> bool
+    ensures { result ≡ is_nothing (lists_of lists.now) }
+{
+    lists.len() == 1 && lists[0].len() == 1
+}
+
+/// The tokens of the scripts, of which there is one at least.
+pub(crate) fn lex(alloc: Global, bytes: &[u8]) -> Result<Lexed, ParseFault>
+    requires { length bytes.now ≤ MOST_INPUT }
+    ensures ok { IfOk result (λ lexed. IsLexed bytes.now (lists_of lexed.lists.items) lexed.texts) }
+    ensures refused { IfErr result (IsFault bytes.now) }
+{
+    let pieces = cut(alloc, bytes)?;
+    let mut texts = Texts::new(alloc);
+    let lists = token_lists(alloc, pieces.as_slice(), &mut texts)?;
+    if is_nothing(lists.as_slice()) {
+        return Err(ParseFault::Refused(Refusal {
+            kind: RefusalKind::NoScript,
+            place: 0,
+        }));
+    }
+    Ok(Lexed { lists, texts })
+}

@@ -1,0 +1,21 @@
+// Whether the names of the scripts are declared as they may be.
+ghost use Rattle.std.specs.Prelude.{◌≡◌, [], map, IfErr, OnOk};
+ghost use Rattle.jo_set.specs.Sets.{faults_of_all};
+ghost use Rattle.jo_tree.specs.ScriptViews.{script_tree};
+ghost use Rattle.jo_parse.specs.Stages.{IsFirstNameFault};
+
+use jo_judge::judge;
+use jo_lex::ParseFault;
+use jo_tree::Script;
+use std::alloc::Global;
+
+/// Whether the names of all the scripts are, or the first fault.
+pub(crate) fn judge_all(alloc: Global, scripts: &[Script]) -> Result<(), ParseFault>
+    ensures ok { OnOk result (faults_of_all (map script_tree scripts.now) ≡ []) }
+    ensures refused { IfErr result (IsFirstNameFault (map script_tree scripts.now)) }
+{
+    for script in scripts {
+        judge(alloc, script)?;
+    }
+    Ok(())
+}

@@ -1,0 +1,38 @@
+// The reader, as others call it.
+ghost use Rattle.std.specs.Prelude.{◌≤◌, length, List, IfErr, IfOk};
+ghost use Rattle.jo_value.specs.declared.limits.TheConstants.{MOST_INPUT};
+ghost use Rattle.jo_value.specs.Texts.{Table};
+ghost use Rattle.jo_lex.specs.declared.refusal.Refusal.{Refusal};
+ghost use Rattle.jo_tree.specs.Trees.{Items};
+ghost use Rattle.jo_set.specs.Sets.{IsRefusal, IsSet};
+ghost use Rattle.jo_parse.specs.Parsed.{Gives, IsFault, Refuses};
+
+use crate::named::judge_all;
+use crate::set::ScriptSet;
+use crate::spell::spell;
+use jo_lex::ParseFault;
+use std::alloc::Global;
+
+fn read(alloc: Global, bytes: &[u8]) -> Result<ScriptSet, ParseFault>
+    requires { length bytes.now ≤ MOST_INPUT }
+    ensures ok { IfOk result (λ set. IsSet bytes.now set.scripts set.texts) }
+    ensures refused { IfErr result (IsFault bytes.now) }
+{
+    let spelled = spell(alloc, bytes)?;
+    judge_all(alloc, spelled.scripts.as_slice())?;
+    Ok(ScriptSet {
+        scripts: spelled.scripts,
+        texts: spelled.texts,
+    })
+}
+
+/// The scripts of the set that the bytes are, or what they are refused for first.
+pub fn parse_set(alloc: Global, bytes: &[u8]) -> Result<ScriptSet, ParseFault>
+    requires { length bytes.now ≤ MOST_INPUT }
+    ensures ok { IfOk result (λ set. IsSet bytes.now set.scripts set.texts) }
+    ensures refused { IfErr result (IsFault bytes.now) }
+    ensures complete { (scripts : List Items) (texts : Table) → IsSet bytes.now scripts texts → Gives scripts texts result }
+    ensures first { (refusal : Refusal) → IsRefusal bytes.now refusal → Refuses refusal result }
+{
+    read(alloc, bytes)
+}
