@@ -13,7 +13,7 @@ use Rattle.jo_meaning.specs.Output.{output}
 use Rattle.jo_form.specs.declared.form.Step.{Step}
 use Rattle.jo_form.specs.declared.form.TheConstants.{MOST_FORM_BYTES}
 use Rattle.jo_form.specs.Forms.{form_of}
-use Rattle.jo_set.specs.Sets.{IsSet, IsRefusal}
+use Rattle.jo_set.specs.Sets.{IsAcceptedSet, IsRefusal}
 use Rattle.jo_answer.specs.declared.due.TheConstants.{DEFAULT_TURNS}
 use Rattle.jo_answer.specs.declared.due.Verdict.{Verdict}
 use Rattle.jo_answer.specs.declared.due.Verdict.TheVariants as verdict
@@ -50,7 +50,7 @@ pub record IsRunOf (well : Bool) (scripts : List Items) (texts : Table) (text : 
 pub record IsRun (well : Bool) (bytes text : List ℕ) : Type 0 where
   pub scripts : List Items
   pub texts : Table
-  pub set : IsSet bytes scripts texts
+  pub set : IsAcceptedSet bytes scripts texts
   pub run : IsRunOf well scripts texts text
 
 -- the bytes are refused, and the text says for what and where
@@ -63,7 +63,7 @@ pub record IsRefused (bytes text : List ℕ) : Type 0 where
 pub record IsNotBuilt (bytes text : List ℕ) : Type 0 where
   pub scripts : List Items
   pub texts : Table
-  pub set : IsSet bytes scripts texts
+  pub set : IsAcceptedSet bytes scripts texts
   pub unbuilt : IsBuilt (length bytes) scripts texts → ⊥
   pub line : text ≡ not_built_line
 
@@ -78,13 +78,13 @@ IsDue verdict.TooLarge bytes text = (MOST_INPUT < length bytes) × (text ≡ siz
 abbrev pub IsRefusedInput : List ℕ → Type 0
 IsRefusedInput bytes =
     ((refusal : Refusal) × IsRefusal bytes refusal)
-    ⊎ ((scripts : List Items) × (texts : Table) × IsSet bytes scripts texts × (IsBuilt (length bytes) scripts texts → ⊥))
+    ⊎ ((scripts : List Items) × (texts : Table) × IsAcceptedSet bytes scripts texts × (IsBuilt (length bytes) scripts texts → ⊥))
 
 -- an input that the program runs so far
 pub record IsRunnable (bytes : List ℕ) : Type 0 where
   pub scripts : List Items
   pub texts : Table
-  pub set : IsSet bytes scripts texts
+  pub set : IsAcceptedSet bytes scripts texts
   pub built : IsBuilt (length bytes) scripts texts
 
 -- ---- what private functions do by these words

@@ -15,14 +15,14 @@ use Rattle.jo_scope.specs.Declarations.{ScopeFault, undeclared, twice, Found, fi
 use Rattle.jo_judge.specs.Judged as judged
 use Rattle.jo_judge.specs.Judged.{refusal_for}
 use Rattle.jo_pieces.specs.Cuts.{pieces_of}
-use Rattle.jo_set.specs.Sets.{IsUnread, IsFirstMisspelled, IsCut, IsLexed, IsParsed, IsRefusalOf, faults_of_all}
+use Rattle.jo_set.specs.Sets.{IsFirstUnread, IsFirstMisspelled, IsCut, IsLexed, IsParsed, IsRefusalOf, faults_of_all}
 use Rattle.jo_parse.specs.Parsed.{IsFault}
 use Rattle.jo_parse.specs.Stages.{IsLexFault, IsTreeFault, IsFirstNameFault}
 use Rattle.jo_parse.proofs.LexFaults.{IsLexKind, is_lex_kind}
 
 -- ---- tokens
 
-unread : (bytes : List ℕ) (refusal : Refusal) (k : RefusalKind) → IsLexKind k → IsCut bytes × IsUnread [] (pieces_of bytes) refusal → IsRefusalOf bytes k refusal
+unread : (bytes : List ℕ) (refusal : Refusal) (k : RefusalKind) → IsLexKind k → IsCut bytes × IsFirstUnread [] (pieces_of bytes) refusal → IsRefusalOf bytes k refusal
 unread bytes refusal kind.BadToken is h = h
 unread bytes refusal kind.NumberTooLarge is h = h
 unread bytes refusal kind.TooManyTexts is h = h

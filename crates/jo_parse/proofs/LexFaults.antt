@@ -16,7 +16,7 @@ use Rattle.jo_lex.specs.Punctuators.{Entry, punctuator_of}
 use Rattle.jo_lex.specs.Pieces.{Lexeme, word, number, text, Piece, gap, lexeme, fault, after_close, closed, comment, limited, word_piece, quoted, text_piece, judged, decimal, number_piece, accepted, punctuator_piece, token_piece, piece}
 use Rattle.jo_lex.specs.Tokens.{State, Next, ended, refused, onward, with_token, taken, next_of, last, kind_of}
 use Rattle.jo_pieces.specs.Cuts as cuts
-use Rattle.jo_set.specs.Sets.{begun, IsUnread}
+use Rattle.jo_set.specs.Sets.{begun, IsFirstUnread}
 
 abbrev pub IsLexKind : RefusalKind → Type 0
 IsLexKind kind.BadToken = Unit {0}
@@ -111,7 +111,7 @@ next-fine s [] = tt
 next-fine s (c ∷ cs) = taken-fine s (piece c cs) (piece-fine c cs)
 
 -- a script that is not read has a bad token, a number that is too large, or a text too many
-pub is_lex_kind : (texts : Table) (pieces : List cuts.Piece) (refusal : Refusal) → IsUnread texts pieces refusal → IsLexKind refusal.kind
+pub is_lex_kind : (texts : Table) (pieces : List cuts.Piece) (refusal : Refusal) → IsFirstUnread texts pieces refusal → IsLexKind refusal.kind
 is_lex_kind texts [] refusal h = absurd h
 is_lex_kind texts (p ∷ pieces) refusal (inl (after, h)) = subst FineNext h.kind_is (next-fine (last (begun texts p)) (last (begun texts p)).rest)
 is_lex_kind texts (p ∷ pieces) refusal (inr (tokens, after, h, g)) = is_lex_kind after pieces refusal g

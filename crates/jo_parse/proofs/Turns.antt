@@ -19,7 +19,7 @@ use Rattle.jo_syntax.specs.Parsed.{IsFault}
 use Rattle.jo_syntax.specs.Terminals.{terminals_of}
 use Rattle.jo_pieces.specs.declared.piece.Piece.{Piece as Part}
 use Rattle.jo_pieces.specs.Cuts.{Piece, piece_of, parts_of, AreWithin}
-use Rattle.jo_set.specs.Sets.{begun, AreRead, IsUnread, AreScripts, IsMisspelled, IsFirstMisspelled}
+use Rattle.jo_set.specs.Sets.{begun, AreRead, IsFirstUnread, AreScripts, IsMisspelled, IsFirstMisspelled}
 use Rattle.jo_parse.specs.Stages.{IsTreeFault, lists_of}
 use Rattle.jo_parse.proofs.Within.{views_left, none_left}
 
@@ -29,7 +29,7 @@ use Rattle.jo_parse.proofs.Within.{views_left, none_left}
 pub record Reads (start : Table) (scripts : List Piece) (here : Table) (rest : List Piece) (done : List (List Token)) : Type 0 where
   pub within : AreWithin MOST_INPUT rest
   pub read : (lists : List (List Token)) (end : Table) → AreRead here rest lists end → AreRead start scripts (done ++ lists) end
-  pub unread : (refusal : Refusal) → IsUnread here rest refusal → IsUnread start scripts refusal
+  pub unread : (refusal : Refusal) → IsFirstUnread here rest refusal → IsFirstUnread start scripts refusal
 
 pub none_read : (start : Table) (scripts : List Piece) → AreWithin MOST_INPUT scripts → Reads start scripts start scripts []
 none_read start scripts w = record { within = w; read = λ lists end h. h; unread = λ refusal h. h }
@@ -44,7 +44,7 @@ module _ (start : Table) (scripts : List Piece) (here : Table) (piece : Piece) (
   }
 
   pub one_unread : Reads start scripts here (piece ∷ rest) done → (refusal : Refusal) (after : Table) → lexed.IsRefused (begun here piece) refusal after
-      → IsUnread start scripts refusal
+      → IsFirstUnread start scripts refusal
   one_unread r refusal after h = r.unread refusal (inl (after, h))
 
 pub all_read : (start : Table) (scripts : List Piece) (here : Table) (done : List (List Token)) → Reads start scripts here [] done → AreRead start scripts done here

@@ -8,7 +8,7 @@ use Rattle.jo_tree.specs.Trees.{Items}
 use Rattle.jo_scope.specs.Declarations.{Found, first_of_faults}
 use Rattle.jo_judge.specs.Judged.{refusal_for}
 use Rattle.jo_pieces.specs.Cuts.{Piece}
-use Rattle.jo_set.specs.Sets.{IsUnread, IsFirstMisspelled, faults_of_all}
+use Rattle.jo_set.specs.Sets.{IsFirstUnread, IsFirstMisspelled, faults_of_all}
 
 -- the lists of tokens that the code holds
 abbrev pub lists_of : {Z : Type 0} → List (Vec Token Z) → List (List Token)
@@ -17,7 +17,7 @@ lists_of lists = map (λ list. list.items) lists
 -- want of memory, or the refusal of the first script that is not read
 abbrev pub IsLexFault : Table → List Piece → ParseFault → Type 0
 IsLexFault texts pieces Memory = Unit {0}
-IsLexFault texts pieces (Refused refusal) = IsUnread texts pieces refusal
+IsLexFault texts pieces (Refused refusal) = IsFirstUnread texts pieces refusal
 
 -- want of memory, or the refusal of the first script that is none
 abbrev pub IsTreeFault : Table → List (List Token) → ParseFault → Type 0

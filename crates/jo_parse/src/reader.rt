@@ -4,8 +4,8 @@ ghost use Rattle.jo_value.specs.declared.limits.TheConstants.{MOST_INPUT};
 ghost use Rattle.jo_value.specs.Texts.{Table};
 ghost use Rattle.jo_lex.specs.declared.refusal.Refusal.{Refusal};
 ghost use Rattle.jo_tree.specs.Trees.{Items};
-ghost use Rattle.jo_set.specs.Sets.{IsRefusal, IsSet};
-ghost use Rattle.jo_parse.specs.Parsed.{Gives, IsFault, Refuses};
+ghost use Rattle.jo_set.specs.Sets.{IsRefusal, IsAcceptedSet};
+ghost use Rattle.jo_parse.specs.Parsed.{Gives, IsFault, Refuses, trees_of};
 
 use crate::named::judge_all;
 use crate::set::ScriptSet;
@@ -15,7 +15,7 @@ use std::alloc::Global;
 
 fn read(alloc: Global, bytes: &[u8]) -> Result<ScriptSet, ParseFault>
     requires { length bytes.now ≤ MOST_INPUT }
-    ensures ok { IfOk result (λ set. IsSet bytes.now set.scripts set.texts) }
+    ensures ok { IfOk result (λ set. IsAcceptedSet bytes.now (trees_of set) set.1) }
     ensures refused { IfErr result (IsFault bytes.now) }
 {
     let spelled = spell(alloc, bytes)?;
@@ -29,9 +29,9 @@ fn read(alloc: Global, bytes: &[u8]) -> Result<ScriptSet, ParseFault>
 /// The scripts of the set that the bytes are, or what they are refused for first.
 pub fn parse_set(alloc: Global, bytes: &[u8]) -> Result<ScriptSet, ParseFault>
     requires { length bytes.now ≤ MOST_INPUT }
-    ensures ok { IfOk result (λ set. IsSet bytes.now set.scripts set.texts) }
+    ensures ok { IfOk result (λ set. IsAcceptedSet bytes.now (trees_of set) set.1) }
     ensures refused { IfErr result (IsFault bytes.now) }
-    ensures complete { (scripts : List Items) (texts : Table) → IsSet bytes.now scripts texts → Gives scripts texts result }
+    ensures complete { (scripts : List Items) (texts : Table) → IsAcceptedSet bytes.now scripts texts → Gives scripts texts result }
     ensures first { (refusal : Refusal) → IsRefusal bytes.now refusal → Refuses refusal result }
 {
     read(alloc, bytes)

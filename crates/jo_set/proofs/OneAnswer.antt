@@ -6,7 +6,7 @@ use Rattle.jo_lex.specs.declared.refusal.RefusalKind.{RefusalKind}
 use Rattle.jo_lex.specs.declared.refusal.RefusalKind.TheVariants as kind
 use Rattle.jo_lex.specs.declared.token.Token.{Token}
 use Rattle.jo_tree.specs.Trees.{Items}
-use Rattle.jo_set.specs.Sets.{IsCut, IsLexed, IsParsed, IsSet, IsRefusalOf, IsRefusal}
+use Rattle.jo_set.specs.Sets.{IsCut, IsLexed, IsParsed, IsAcceptedSet, IsRefusalOf, IsRefusal}
 use Rattle.jo_set.proofs.SetStages.{Answer, Lexed, Spelled, Named, Answers, answers-once}
 
 -- ---- what goes through a stage has the answer of the next one
@@ -22,7 +22,7 @@ after-parsed bytes scripts texts x parsed h = after-lexed bytes parsed.lists tex
 
 -- ---- sets and refusals are answers
 
-set-answers : (bytes : List ℕ) (scripts : List Items) (texts : Table) → IsSet bytes scripts texts → Answers bytes (Ok (scripts, texts))
+set-answers : (bytes : List ℕ) (scripts : List Items) (texts : Table) → IsAcceptedSet bytes scripts texts → Answers bytes (Ok (scripts, texts))
 set-answers bytes scripts texts set = after-parsed bytes scripts texts (Ok (scripts, texts)) set.parsed (inr (tt, set.named, refl))
 
 refusal-answers : (bytes : List ℕ) (r : Refusal) (k : RefusalKind) → r.kind ≡ k → IsRefusalOf bytes k r → Answers bytes (Err r)
@@ -43,7 +43,7 @@ sets-equal : (a b : List Items × Table) → ◌≡◌ {A = Answer} (Ok a) (Ok b
 sets-equal a b e = cc
 
 -- accepted bytes are one set, with one table
-pub one_set : (bytes : List ℕ) (s s' : List Items) (t t' : Table) → IsSet bytes s t → IsSet bytes s' t' → (s ≡ s') × (t ≡ t')
+pub one_set : (bytes : List ℕ) (s s' : List Items) (t t' : Table) → IsAcceptedSet bytes s t → IsAcceptedSet bytes s' t' → (s ≡ s') × (t ≡ t')
 one_set bytes s s' t t' h k =
     let e = sets-equal (s, t) (s', t') (answers-once bytes (Ok (s, t)) (Ok (s', t')) (set-answers bytes s t h) (set-answers bytes s' t' k)) in
     (ap (λ v. v.0) e, ap (λ v. v.1) e)
@@ -52,7 +52,7 @@ set-is-no-refusal : (a : List Items × Table) (r : Refusal) → ◌≡◌ {A = A
 set-is-no-refusal a r e = absurd cc
 
 -- and are not refused
-pub set_or_refused : (bytes : List ℕ) (s : List Items) (t : Table) (r : Refusal) → IsSet bytes s t → IsRefusal bytes r → ⊥
+pub set_or_refused : (bytes : List ℕ) (s : List Items) (t : Table) (r : Refusal) → IsAcceptedSet bytes s t → IsRefusal bytes r → ⊥
 set_or_refused bytes s t r h k =
     set-is-no-refusal (s, t) r (answers-once bytes (Ok (s, t)) (Err r) (set-answers bytes s t h) (refusal-answers bytes r r.kind refl k))
 

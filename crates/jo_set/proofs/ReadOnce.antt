@@ -6,7 +6,7 @@ use Rattle.jo_lex.specs.declared.refusal.Refusal.{Refusal}
 use Rattle.jo_lex.specs.declared.refusal.RefusalKind.{RefusalKind}
 use Rattle.jo_lex.specs.Tokens.{State, Next, ended, refused, onward, next, last, IsRead, IsRefused}
 use Rattle.jo_pieces.specs.Cuts.{Piece}
-use Rattle.jo_set.specs.Sets.{begun, AreRead, IsUnread}
+use Rattle.jo_set.specs.Sets.{begun, AreRead, IsFirstUnread}
 
 -- ---- one script
 
@@ -43,19 +43,19 @@ read-once texts (p ∷ ps) (t ∷ a) (u ∷ b) x y h k =
     let f = read-once h.0 ps a b x y h.2 (subst (λ v. AreRead v ps b y) (sym e.1) k.2) in
     (ap (λ v. v ∷ a) e.0 ∙ ap (λ v. u ∷ v) f.0, f.1)
 
-pub read-or-unread : (texts : Table) (pieces : List Piece) (a : List (List Token)) (x : Table) (r : Refusal) → AreRead texts pieces a x → IsUnread texts pieces r → ⊥
+pub read-or-unread : (texts : Table) (pieces : List Piece) (a : List (List Token)) (x : Table) (r : Refusal) → AreRead texts pieces a x → IsFirstUnread texts pieces r → ⊥
 read-or-unread texts [] a x r h k = k
 read-or-unread texts (p ∷ ps) [] x r h k = h
 read-or-unread texts (p ∷ ps) (t ∷ a) x r h (inl k) = read-or-refused (begun texts p) t h.0 r k.0 h.1 k.1
 read-or-unread texts (p ∷ ps) (t ∷ a) x r h (inr k) =
     let e = tokens-once (begun texts p) t k.0 h.0 k.1 h.1 k.2 in
-    read-or-unread h.0 ps a x r h.2 (subst (λ v. IsUnread v ps r) (sym e.1) k.3)
+    read-or-unread h.0 ps a x r h.2 (subst (λ v. IsFirstUnread v ps r) (sym e.1) k.3)
 
-pub unread-once : (texts : Table) (pieces : List Piece) (q r : Refusal) → IsUnread texts pieces q → IsUnread texts pieces r → q ≡ r
+pub unread-once : (texts : Table) (pieces : List Piece) (q r : Refusal) → IsFirstUnread texts pieces q → IsFirstUnread texts pieces r → q ≡ r
 unread-once texts [] q r h k = elim h [ ]
 unread-once texts (p ∷ ps) q r (inl h) (inl k) = refused-once (begun texts p) q r h.0 k.0 h.1 k.1
 unread-once texts (p ∷ ps) q r (inl h) (inr k) = absurd (read-or-refused (begun texts p) k.0 k.1 q h.0 k.2 h.1)
 unread-once texts (p ∷ ps) q r (inr h) (inl k) = absurd (read-or-refused (begun texts p) h.0 h.1 r k.0 h.2 k.1)
 unread-once texts (p ∷ ps) q r (inr h) (inr k) =
     let e = tokens-once (begun texts p) h.0 k.0 h.1 k.1 h.2 k.2 in
-    unread-once h.1 ps q r h.3 (subst (λ v. IsUnread v ps r) (sym e.1) k.3)
+    unread-once h.1 ps q r h.3 (subst (λ v. IsFirstUnread v ps r) (sym e.1) k.3)

@@ -10,7 +10,7 @@ use Rattle.jo_tree.specs.Trees.{Items}
 use Rattle.jo_scope.specs.Declarations.{Found, first_of_faults}
 use Rattle.jo_judge.specs.Judged.{refusal_for}
 use Rattle.jo_pieces.specs.Cuts.{Piece, pieces_of, end_of, IsOneTooMany}
-use Rattle.jo_set.specs.Sets.{AreRead, IsUnread, is_nothing, AreScripts, IsFirstMisspelled, faults_of_all}
+use Rattle.jo_set.specs.Sets.{AreRead, IsFirstUnread, is_nothing, AreScripts, IsFirstMisspelled, faults_of_all}
 use Rattle.jo_set.proofs.Stages.{Once, Decides, Stage, stage-once}
 use Rattle.jo_set.proofs.ReadOnce.{same-refusal, read-once, read-or-unread, unread-once}
 use Rattle.jo_set.proofs.SpelledOnce.{spelled-once, spelled-or-first, first-once}
@@ -46,7 +46,7 @@ abbrev pub Something : List (List Token) → Table → Answer → Type 0
 Something lists texts = Stage (IsNothing lists) (λ (u : Unit {0}). is_nothing lists ≡ false) (λ u. Spelled lists texts)
 
 abbrev pub Lexed : List ℕ → Answer → Type 0
-Lexed bytes = Stage (IsUnread [] (pieces_of bytes)) (λ (p : List (List Token) × Table). AreRead [] (pieces_of bytes) p.0 p.1) (λ p. Something p.0 p.1)
+Lexed bytes = Stage (IsFirstUnread [] (pieces_of bytes)) (λ (p : List (List Token) × Table). AreRead [] (pieces_of bytes) p.0 p.1) (λ p. Something p.0 p.1)
 
 abbrev pub Cut : List ℕ → Answer → Type 0
 Cut bytes = Stage (AreTooMany bytes) (λ (u : Unit {0}). length (pieces_of bytes) ≤ MOST_SCRIPTS) (λ u. Lexed bytes)
@@ -84,7 +84,7 @@ something-decides lists = record {
   apart = λ r x h k. true≢false (sym h.1 ∙ k);
 }
 
-lexed-decides : (bytes : List ℕ) → Decides (IsUnread [] (pieces_of bytes)) (λ (p : List (List Token) × Table). AreRead [] (pieces_of bytes) p.0 p.1)
+lexed-decides : (bytes : List ℕ) → Decides (IsFirstUnread [] (pieces_of bytes)) (λ (p : List (List Token) × Table). AreRead [] (pieces_of bytes) p.0 p.1)
 lexed-decides bytes = record {
   stops = unread-once [] (pieces_of bytes);
   goes = λ x y h k. let e = read-once [] (pieces_of bytes) x.0 y.0 x.1 y.1 h k in ap (λ v. (v, x.1)) e.0 ∙ ap (λ v. (y.0, v)) e.1;

@@ -11,7 +11,7 @@ use Rattle.jo_syntax.specs.Terminals.{terminals_of}
 use Rattle.jo_scope.specs.Declarations.{Found, faults}
 use Rattle.jo_scope.specs.Sound.{IsSound}
 use Rattle.jo_pieces.specs.Cuts.{pieces_of}
-use Rattle.jo_set.specs.Sets.{AreScripts, faults_of_all, IsSet}
+use Rattle.jo_set.specs.Sets.{AreScripts, faults_of_all, IsAcceptedSet}
 use Rattle.jo_set.specs.Soundness.{AreSound}
 use Rattle.jo_set.proofs.GoodMarks.{AreGood, AreFine}
 use Rattle.jo_set.proofs.SpelledLengths.{items_few}
@@ -72,14 +72,14 @@ scripts-many texts (tokens ∷ lists) (script ∷ scripts) k = ap suc (scripts-m
 -- ---- sets
 
 -- each script of an accepted set is sound for the table of the set
-pub sets_are_sound : (bytes : List ℕ) (scripts : List Items) (texts : Table) → length bytes ≤ MOST_INPUT → IsSet bytes scripts texts → AreSound texts scripts
+pub sets_are_sound : (bytes : List ℕ) (scripts : List Items) (texts : Table) → length bytes ≤ MOST_INPUT → IsAcceptedSet bytes scripts texts → AreSound texts scripts
 sets_are_sound bytes scripts texts le h =
     let l = h.parsed.lexed in
     let good = lists-good (length bytes) [] (pieces_of bytes) h.parsed.lists texts (pieces-short bytes l.cut.utf8) l.read in
     scripts-sound texts (length bytes) h.parsed.lists scripts le good.0 h.parsed.spelled h.named
 
 -- an accepted set has a script, and at most eight
-pub sets_are_few : (bytes : List ℕ) (scripts : List Items) (texts : Table) → IsSet bytes scripts texts → (1 ≤ length scripts) × (length scripts ≤ MOST_SCRIPTS)
+pub sets_are_few : (bytes : List ℕ) (scripts : List Items) (texts : Table) → IsAcceptedSet bytes scripts texts → (1 ≤ length scripts) × (length scripts ≤ MOST_SCRIPTS)
 sets_are_few bytes scripts texts h =
     let l = h.parsed.lexed in
     let many : length scripts ≡ length (pieces_of bytes) = scripts-many texts h.parsed.lists scripts h.parsed.spelled ∙ lists-many [] (pieces_of bytes) h.parsed.lists texts l.read in

@@ -1,2 +1,2 @@
-//! Which bytes are an accepted set of scripts, and what other bytes are refused for: definitions, and that each input has one answer.
+//! Which bytes are an accepted set of scripts, and what other bytes are refused for, as definitions.
 #![tactic(auto)]

@@ -11,5 +11,5 @@ returns-clause-sound c =
     let script = c.index.result.now in
     let within : c.from.result < length set.scripts.items = grind (arith, common_steps) in
     let sound = sound_at set.texts set.scripts.items c.from.result script (search rules) within in
-    subst (λ v. IsSound v.texts (script_tree script)) c.self.view_is
+    subst (λ v. IsSound v.1 (script_tree script)) c.self.view_is
     (subst (λ v. IsSound set.texts (script_tree v)) (sym c.index.ensures) sound)
