@@ -21,7 +21,7 @@ use Rattle.jo_tree.specs.declared.script.Item.TheBlock.{None', Some', more_of-If
 use Rattle.jo_tree.specs.declared.script.Statement.{Statement}
 use Rattle.jo_tree.specs.declared.script.Statement.TheVariants as s
 use Rattle.jo_tree.specs.ScriptViews.{statement_tree}
-use Rattle.jo_tree.specs.Trees.{Tree, run, member}
+use Rattle.jo_tree.specs.Trees.{run}
 use Rattle.jo_tree.specs.Views.{expr_tree, cond_tree, chain_tree, unary_tree, postfix_tree, primary_tree, accesses_list}
 use Rattle.jo_tree.proofs.Shapes.{shapes}
 use Rattle.jo_tree.proofs.ScriptShapes.{script_shapes}

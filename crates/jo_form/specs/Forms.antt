@@ -1,6 +1,6 @@
 -- The scripts that the program runs so far: each statement sets a property of the shared object to a number that is written,
 -- or prints properties of it. Such a script has at most as many names as an object.
-use Rattle.std.specs.Prelude.{ℕ, ℤ, Bool, true, false, not, ◌==◌, nat_le, if◌then◌else◌, List, [], ◌∷◌, ◌++◌, length, map, flat_map, fold, Option, Some, None}
+use Rattle.std.specs.Prelude.{ℕ, ℤ, Bool, false, not, ◌==◌, nat_le, if◌then◌else◌, List, [], ◌∷◌, ◌++◌, length, map, flat_map, fold, Option, Some, None}
 use Rattle.std.specs.List.{list_any}
 use Rattle.jo_value.specs.declared.limits.TheConstants.{MOST_NAMES}
 use Rattle.jo_value.specs.declared.value.NameId.{NameId}
@@ -8,7 +8,7 @@ use Rattle.jo_value.specs.Texts.{Table}
 use Rattle.jo_tree.specs.declared.keyword.Keyword.TheVariants as keyword
 use Rattle.jo_tree.specs.declared.operator.AssignOperator.TheVariants as assign_op
 use Rattle.jo_tree.specs.declared.word.Name.{Name as Word}
-use Rattle.jo_tree.specs.Trees.{Tree, number, constant, member, unary, delete, chain, choose, assign, Accesses, no_accesses, field, Statement, print, run, Items, no_items, declare, perform}
+use Rattle.jo_tree.specs.Trees.{Tree, number, constant, member, assign, no_accesses, field, Statement, print, run, Items, no_items, declare, perform}
 use Rattle.jo_model.specs.Printed.{text_in}
 use Rattle.jo_meaning.specs.Keys.{is_digit, name_number}
 use Rattle.jo_form.specs.declared.form.Step.{Step}
