@@ -1,8 +1,8 @@
 // Scripts of the form and others, built by hand, with ample memory.
-use crate::{MOST_FORM_BYTES, form_of};
+use crate::form_of;
 use jo_tree::{
-    Access, Assign, AssignOperator, Binding, Chain, Cond, Expr, Ident, Item, Keyword, Let, Member,
-    Name, Postfix, Primary, Script, Statement, Target, Unary,
+    Access, Assign, AssignOperator, Chain, Cond, Expr, Ident, Item, Keyword, Let, Member, Name,
+    Postfix, Primary, Script, Statement, Target, Unary,
 };
 use jo_value::{TextId, Texts};
 use sqlite_items::{Boxed, Items};
@@ -36,16 +36,28 @@ fn primary(primary: Primary) -> Expr {
     expression(Postfix::Primary(primary))
 }
 
+// A number, in brackets or not.
+fn number(alloc: Global, is_bracketed: bool) -> Result<Primary, AllocError> {
+    if is_bracketed {
+        let inner = Boxed::new(alloc, primary(Primary::Number(1)))?;
+        return Ok(Primary::Group(inner));
+    }
+    Ok(Primary::Number(1))
+}
+
 fn assignment(
     alloc: Global,
-    name: Name,
+    target: Member,
     operator: AssignOperator,
-    value: Primary,
+    is_bracketed: bool,
 ) -> Result<Item, AllocError> {
+    let value = primary(number(alloc, is_bracketed)?);
+    let value = Boxed::new(alloc, value)?;
+    let target = Target::Member(target);
     let assign = Assign {
-        target: Target::Member(property(alloc, name)?),
+        target,
         operator,
-        value: Boxed::new(alloc, primary(value))?,
+        value,
     };
     let expr = Boxed::new(alloc, Expr::Assign(assign))?;
     Ok(Item::Statement(Statement::Expr(expr)))
@@ -59,75 +71,72 @@ fn print(alloc: Global, names: &[Name]) -> Result<Item, AllocError> {
     Ok(Item::Statement(Statement::Print(exprs)))
 }
 
-fn declaration(alloc: Global, text: TextId) -> Result<Item, AllocError> {
-    let mut bindings = Items::new(alloc);
-    bindings.push(Binding {
-        ident: ident(text),
-        value: None,
-    })?;
-    Ok(Item::Let(Let { bindings }))
-}
-
-fn script_of(alloc: Global, item: Item) -> Result<Script, AllocError> {
+// A script of this item, with a declaration behind it or not.
+fn script_of(alloc: Global, item: Item, is_declaring: bool) -> Result<Script, AllocError> {
     let mut items = Items::new(alloc);
     items.push(item)?;
+    if is_declaring {
+        let bindings = Items::new(alloc);
+        items.push(Item::Let(Let { bindings }))?;
+    }
     Ok(Script { items })
 }
 
-// The form as text.
-fn shown(alloc: Global, script: &Script, texts: &Texts) -> Result<String, AllocError> {
-    let form = form_of(alloc, script, texts)?;
+// The form of the script of an item, as text.
+fn shown(
+    alloc: Global,
+    texts: &Texts,
+    item: Item,
+    is_declaring: bool,
+) -> Result<String, AllocError> {
+    let script = script_of(alloc, item, is_declaring)?;
+    let form = form_of(alloc, &script, texts)?;
     format!(in alloc; "{form:?}")
 }
 
 #[test]
-fn puts_and_prints_are_steps(rt: HostRuntime) -> Result<(), Fail> {
+fn a_put_sets_a_property_to_a_plain_number(rt: HostRuntime) -> Result<(), Fail> {
+    let alloc = rt.alloc();
+    let mut texts = Texts::new(alloc);
+    let name = Name::Ident(ident(texts.intern("x")?));
+    let put = "Some(Form { steps: Items { items: [Put(NameId(0), 1)] } })";
+    let rows = [
+        (AssignOperator::Set, false, false, put),
+        (AssignOperator::Set, false, true, "None"),
+        (AssignOperator::Set, true, false, "None"),
+        (AssignOperator::Add, false, false, "None"),
+    ];
+    for (operator, is_bracketed, is_declaring, want) in rows {
+        let target = property(alloc, name)?;
+        let item = assignment(alloc, target, operator, is_bracketed)?;
+        let form = shown(alloc, &texts, item, is_declaring)?;
+        assert_eq!(rt; form.as_str(), want);
+    }
+    Ok(())
+}
+
+#[test]
+fn a_print_has_names_that_the_table_has(rt: HostRuntime) -> Result<(), Fail> {
     let alloc = rt.alloc();
     let mut texts = Texts::new(alloc);
     let x = Name::Ident(ident(texts.intern("x")?));
     let word = Name::Reserved(texts.intern("class")?);
     texts.intern("if")?;
-    let keyword = Name::Keyword(Keyword::If);
-    let mut script = script_of(
-        alloc,
-        assignment(alloc, x, AssignOperator::Set, Primary::Number(1))?,
-    )?;
-    script.items.push(print(alloc, &[keyword, x, word])?)?;
-    assert_eq!(rt;
-        shown(alloc, &script, &texts)?.as_str(),
-        "Some(Form { steps: Items { items: [Put(NameId(0), 1), Print(Items { items: [NameId(2), NameId(0), NameId(1)] })] } })"
-    );
-    assert!(rt; script.items.len() < MOST_FORM_BYTES);
-    Ok(())
-}
-
-#[test]
-fn other_scripts_have_no_form(rt: HostRuntime) -> Result<(), Fail> {
-    let alloc = rt.alloc();
-    let mut texts = Texts::new(alloc);
-    let text = texts.intern("x")?;
-    let x = Name::Ident(ident(text));
-    let group = Primary::Group(Boxed::new(alloc, primary(Primary::Number(1)))?);
+    let here = Name::Keyword(Keyword::If);
+    let missing = Name::Keyword(Keyword::For);
+    let printed = [here, x, word];
+    let lacking = [x, missing];
     let rows = [
-        ("let x;", declaration(alloc, text)?),
-        (";", Item::Statement(Statement::Empty)),
         (
-            "shared.x = (1);",
-            assignment(alloc, x, AssignOperator::Set, group)?,
+            printed.as_slice(),
+            "Some(Form { steps: Items { items: [Print(Items { items: [NameId(2), NameId(0), NameId(1)] })] } })",
         ),
-        (
-            "shared.x += 1;",
-            assignment(alloc, x, AssignOperator::Add, Primary::Number(1))?,
-        ),
-        ("print();", print(alloc, &[])?),
-        (
-            "print(shared.if);, without the text",
-            print(alloc, &[Name::Keyword(Keyword::If)])?,
-        ),
+        (lacking.as_slice(), "None"),
+        (&printed[..0], "None"),
     ];
-    for (what, item) in rows {
-        let script = script_of(alloc, item)?;
-        assert_eq!(rt; shown(alloc, &script, &texts)?.as_str(), "None", "{what}");
+    for (names, want) in rows {
+        let form = shown(alloc, &texts, print(alloc, names)?, false)?;
+        assert_eq!(rt; form.as_str(), want);
     }
     Ok(())
 }
@@ -144,8 +153,8 @@ fn a_script_has_at_most_64_names(rt: HostRuntime) -> Result<(), Fail> {
             names.push(name)?;
             names.push(name)?;
         }
-        let script = script_of(alloc, print(alloc, &names)?)?;
-        assert_eq!(rt; form_of(alloc, &script, &texts)?.is_some(), has_form);
+        let form = shown(alloc, &texts, print(alloc, &names)?, false)?;
+        assert_eq!(rt; form.as_str() != "None", has_form);
     }
     Ok(())
 }
