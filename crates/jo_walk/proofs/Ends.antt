@@ -31,7 +31,7 @@ use Rattle.jo_meaning.specs.Histories.{IsHistoryOf, played_alone}
 use Rattle.jo_meaning.specs.Keys.{is_digit, numeral, key_by, key_of_text, name_number}
 use Rattle.jo_meaning.specs.Values.{is_empty}
 use Rattle.jo_meaning.proofs.Alone.{history_of_script, heap_alone, lines_alone, entries_of-play}
-use Rattle.jo_form.specs.Forms.{with_front, is_word, shared_name, shared_names, put_of, print_of, step_of, steps_of, has_few_names, unless_many, form_of}
+use Rattle.jo_form.specs.Forms.{number_in, with_front, is_word, shared_name, shared_names, put_of, print_of, step_of, steps_of, has_few_names, unless_many, form_of}
 use Rattle.jo_form.specs.declared.form.Step.{Step}
 use Rattle.jo_form.specs.declared.form.Step.TheVariants as step
 use Rattle.jo_walk.specs.Alone.{IsRunAlone}
@@ -124,7 +124,7 @@ record Prints (texts : Table) (names : Option (List NameId)) (of : Step) : Type 
   are_names : names ≡ Some names_of
   is : step.Print names_of ≡ of
 
-print_names : (texts : Table) (names : Option (List NameId)) (of : Step) → print_of texts names ≡ Some of → Prints texts names of
+print_names : (texts : Table) (names : Option (List NameId)) (of : Step) → print_of names ≡ Some of → Prints texts names of
 print_names texts (Some (name ∷ names)) of h = record { names_of = name ∷ names; are_names = refl; is = inside _ of h }
 print_names texts (Some []) of h = absurd (none-some of h)
 print_names texts None of h = absurd (none-some of h)
@@ -150,13 +150,13 @@ record Puts (is_word : Bool) (name : NameId) (value : Tree) (of : Step) : Type 0
   is_number : value ≡ number i
   is : step.Put name i ≡ of
 
-put_number : (texts : Table) (b : Bool) (name : NameId) (value : Tree) (of : Step) → put_of texts (if b then Some name else None) value ≡ Some of → Puts b name value of
+put_number : (texts : Table) (b : Bool) (name : NameId) (value : Tree) (of : Step) → put_of (if b then Some name else None) (number_in value) ≡ Some of → Puts b name value of
 put_number texts true name (number i) of h = record { word = refl; i = i; is_number = refl; is = inside _ of h }
 put_number texts true name _ of h = absurd (none-some of h)
 put_number texts false name value of h = absurd (none-some of h)
 
 put_end : (texts : Table) (scope : Scope) (target value : Tree) (of : Step) (next broken continued : Next) (rest : Heap → List ℕ → Stage) (s : State) (heap : Heap) →
-    put_of texts (shared_name texts target) value ≡ Some of → Leaves next rest →
+    put_of (shared_name texts target) (number_in value) ≡ Some of → Leaves next rest →
     end_of (executes texts scope (run (assign assign_op.Set target value)) next broken continued s) heap ≡ goes_on (after_step texts of heap s.lines) rest
 put_end texts scope (member (constant keyword.Shared) (field word no_accesses)) value of next broken continued rest s heap h leaves =
     let id = name_number texts word in

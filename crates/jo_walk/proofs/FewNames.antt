@@ -1,6 +1,6 @@
 -- Where the steps have few names no put of them is refused, and they come to their end, or to the limit of the lines.
 use Rattle.std.proofs.Common.{◌≡◌, ℕ, ◌+◌, ◌<◌, ◌≤◌, List, [], ◌∷◌, ◌++◌, Bool, true, false, ◌||◌, Option, Some, None, refl, sym, ap, ◌∙◌, ◌⊎◌, inl, inr, length, get_or, subst, arith, eqb, true≢false, length-append}
-use Rattle.std.specs.Prelude.{map, flat_map, find, nat_le, is_some, option_map, if◌then◌else◌, ◌==◌}
+use Rattle.std.specs.Prelude.{fold, map, flat_map, find, nat_le, is_some, option_map, if◌then◌else◌}
 use Rattle.std.specs.Cmp.{nat_eq_equiv}
 use Rattle.std.specs.List.{IsDistinct, list_any}
 use Rattle.std.proofs.lemmas.Bool.{eqb-true, cases_lt, leb-true, or_cases, or_left, or_right}
@@ -25,7 +25,7 @@ use Rattle.jo_model.specs.declared.call.Outcome.TheVariants as outcome
 use Rattle.jo_model.specs.Objects.{Object, empty_object, name_place, has_property, is_full_for, with_value, with_property}
 use Rattle.jo_model.specs.Heaps.{Heap, heap_at_start}
 use Rattle.jo_model.specs.Printed.{line_of}
-use Rattle.jo_form.specs.Forms.{names_in, each_once, has_few_names}
+use Rattle.jo_form.specs.Forms.{names_in, with_number, each_once, has_few_names}
 use Rattle.jo_form.specs.declared.form.Step.{Step}
 use Rattle.jo_form.specs.declared.form.Step.TheVariants as step
 use Rattle.jo_walk.specs.Walks.{Stage, values_in, after_call, after_line, after_steps, unless_ended}
@@ -39,26 +39,30 @@ IsAmong n known = list_any (eqb n) known ≡ true
 abbrev AreAmong : List ℕ → List ℕ → Type 0
 AreAmong names known = (n : ℕ) → IsAmong n names → IsAmong n known
 
-turned : (names : List ℕ) (n : ℕ) → list_any (λ other. other == n) names ≡ list_any (eqb n) names
-turned [] n = refl
-turned (m ∷ names) n = ap (λ b. b || list_any (λ other. other == n) names) (nat_eq_equiv.symm m n) ∙ ap (λ b. eqb n m || b) (turned names n)
+-- a number stays where others are added, and one that is added is there
+stays : (there : Bool) (numbers : List ℕ) (m n : ℕ) → IsAmong n numbers → IsAmong n (if there then numbers else numbers ++ m ∷ [])
+stays true numbers m n h = h
+stays false numbers m n h = list_any-append (eqb n) numbers (m ∷ []) ∙ or_left (list_any (eqb n) numbers) (list_any (eqb n) (m ∷ [])) h
 
--- the first number and those of the rest, where the first one stands again or not
-once_more : (again : Bool) (m : ℕ) (names once : List ℕ) → list_any (λ other. other == m) names ≡ again → AreAmong names once →
-    AreAmong (m ∷ names) (if again then once else m ∷ once)
-once_more true m names once e rest n h = elim (or_cases (eqb n m) (list_any (eqb n) names) h) [
-  | inl same ↦ let there = sym (turned names m) ∙ e in let is = eqb-true n m same in rest n (ap (λ k. list_any (eqb k) names) is ∙ there)
-  | inr behind ↦ rest n behind
-]
-once_more false m names once e rest n h = elim (or_cases (eqb n m) (list_any (eqb n) names) h) [
-  | inl same ↦ or_left (eqb n m) (list_any (eqb n) once) same
-  | inr behind ↦ or_right (eqb n m) (list_any (eqb n) once) (rest n behind)
+added : (there : Bool) (numbers : List ℕ) (m n : ℕ) → list_any (eqb m) numbers ≡ there → eqb n m ≡ true → IsAmong n (if there then numbers else numbers ++ m ∷ [])
+added true numbers m n e same = let is = eqb-true n m same in ap (λ k. list_any (eqb k) numbers) is ∙ e
+added false numbers m n e same =
+    list_any-append (eqb n) numbers (m ∷ []) ∙ or_right (list_any (eqb n) numbers) (list_any (eqb n) (m ∷ [])) (or_left (eqb n m) false same)
+
+stay_all : (names numbers : List ℕ) (n : ℕ) → IsAmong n numbers → IsAmong n (fold with_number numbers names)
+stay_all [] numbers n h = h
+stay_all (m ∷ names) numbers n h = stay_all names (with_number numbers m) n (stays (list_any (eqb m) numbers) numbers m n h)
+
+add_all : (names numbers : List ℕ) (n : ℕ) → IsAmong n names → IsAmong n (fold with_number numbers names)
+add_all [] numbers n h = absurd (true≢false (sym h))
+add_all (m ∷ names) numbers n h = elim (or_cases (eqb n m) (list_any (eqb n) names) h) [
+  | inl same ↦ stay_all names (with_number numbers m) n (added (list_any (eqb m) numbers) numbers m n refl same)
+  | inr behind ↦ add_all names (with_number numbers m) n behind
 ]
 
 -- no number is lost where each is kept once
 once : (names : List ℕ) → AreAmong names (each_once names)
-once [] n h = h
-once (m ∷ names) n h = once_more (list_any (λ other. other == m) names) m names (each_once names) refl (once names) n h
+once names n h = add_all names [] n h
 
 -- those of one step, and those of the others
 first_among : (a b known : List ℕ) → AreAmong (a ++ b) known → AreAmong a known
