@@ -1,3 +1,6 @@
 pub mod Names
 pub mod Alike
 pub mod Turns
+pub mod Counted
+pub mod Judging
+pub mod Steps

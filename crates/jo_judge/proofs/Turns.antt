@@ -14,7 +14,8 @@ use Rattle.jo_tree.specs.declared.expr.Access.TheVariants as a
 use Rattle.jo_tree.specs.declared.expr.Chain.TheVariants as h
 use Rattle.jo_tree.specs.Trees.{chain, object, no_accesses}
 use Rattle.jo_tree.specs.Views.{expr_tree, chain_tree, object_tree, links_list, props_list, accesses_list, accesses_with}
-use Rattle.jo_scope.specs.Declarations.{Scope, Found, undeclared, is_bound, faults_of_uses, uses_of, uses_of_accesses, uses_of_links, uses_of_props}
+use Rattle.jo_tree.specs.ScriptViews.{trees_list}
+use Rattle.jo_scope.specs.Declarations.{Scope, Found, undeclared, is_bound, faults_of_uses, uses_of, uses_of_accesses, uses_of_all, uses_of_links, uses_of_props}
 use Rattle.jo_judge.specs.Blocks.{answer_to, and_then}
 use Rattle.jo_tree.proofs.Shapes.{shapes, chain_tree-binary, object_tree-of}
 
@@ -70,6 +71,13 @@ module _ (scopes : List Scope) where
       ap (λ v. answer_to (faults_of_uses scopes (uses_of_accesses (accesses_list v)))) (drop-at accesses i access below is)
       ∙ (ap (λ v. answer_to (faults_of_uses scopes v)) (uses_of-access access (drop (i + 1) accesses))
       ∙ both scopes (uses_of_accesses (accesses_with no_accesses access)) (uses_of_accesses (accesses_list (drop (i + 1) accesses))))
+
+  pub exprs-turn : (exprs : List Expr) (i : ℕ) (expr : Expr) → i < length exprs → expr ≡ get_or exprs i expr
+      → answer_to (faults_of_uses scopes (uses_of_all (trees_list (drop i exprs))))
+      ≡ and_then (answer_to (faults_of_uses scopes (uses_of (expr_tree expr)))) (answer_to (faults_of_uses scopes (uses_of_all (trees_list (drop (i + 1) exprs)))))
+  exprs-turn exprs i expr below is =
+      ap (λ v. answer_to (faults_of_uses scopes (uses_of_all (trees_list v)))) (drop-at exprs i expr below is)
+      ∙ both scopes (uses_of (expr_tree expr)) (uses_of_all (trees_list (drop (i + 1) exprs)))
 
 pub after_ok : {whole first : Result (Unit {0}) Refusal} {x : Unit {0}} (rest : Result (Unit {0}) Refusal) → whole ≡ and_then first rest → first ≡ Ok x → whole ≡ rest
 after_ok rest e ok = e ∙ ap (λ v. and_then v rest) ok

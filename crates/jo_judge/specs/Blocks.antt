@@ -23,9 +23,13 @@ IsAlike scope other = HasSame scope.names other.names × HasSame scope.ended oth
 abbrev pub Declares : Scope → ℕ → Scope → Type 0
 Declares scope name new = IsAlike new (record scope { names = name ∷ scope.names })
 
+-- the block if it declares these names too
+abbrev pub with_names : Scope → List ℕ → Scope
+with_names scope names = record scope { names = names ++ scope.names }
+
 -- the new block declares these names too
 abbrev pub DeclaresAll : Scope → List ℕ → Scope → Type 0
-DeclaresAll scope names new = IsAlike new (record scope { names = names ++ scope.names })
+DeclaresAll scope names new = IsAlike new (with_names scope names)
 
 -- a binding of this name has ended too
 abbrev pub Ends : Scope → ℕ → Scope → Type 0
@@ -51,6 +55,10 @@ left (scope, before ∷ outer) = (before, outer)
 -- the innermost block at another place in it, alike to the given one, and the same blocks around it
 abbrev pub Moves : Scopes → Scope → Scopes → Type 0
 Moves scopes scope new = IsAlike new.0 scope × (new.1 ≡ scopes.1)
+
+-- a new block is entered that is alike to the given one
+abbrev pub Enters : Scopes → Scope → Scopes → Type 0
+Enters scopes scope new = IsAlike new.0 scope × (new.1 ≡ all_of scopes)
 
 -- the faults of a binding
 abbrev pub binding_faults : Scopes → Binding → List Found
@@ -81,3 +89,8 @@ abbrev pub Judges : List Found → Result (Unit {0}) ParseFault → Type 0
 Judges faults (Ok x) = answer_to faults ≡ Ok x
 Judges faults (Err Memory) = Unit {0}
 Judges faults (Err (Refused refusal)) = answer_to faults ≡ Err refusal
+
+-- the answer of the code
+abbrev pub refused : Result (Unit {0}) Refusal → Result (Unit {0}) ParseFault
+refused (Ok x) = Ok x
+refused (Err refusal) = Err (Refused refusal)

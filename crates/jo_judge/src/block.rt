@@ -44,13 +44,23 @@ impl Block {
     }
 
     /// Declares the names of the bindings.
-    pub(crate) fn declare_all(&mut self, bindings: &[Binding]) -> Result<(), AllocError>
+    fn declare_all(&mut self, bindings: &[Binding]) -> Result<(), AllocError>
         ensures { OnOk result (DeclaresAll self.old (names_of (bindings_list bindings.now)) self.new) }
     {
         for binding in bindings {
             self.declare(binding.ident.text.0)?;
         }
         Ok(())
+    }
+
+    /// The block of a `for` with these declarations, at its beginning.
+    #[tactic(auto, using(crate::proofs::Counted::counting))]
+    pub(crate) fn of_bindings(alloc: Global, bindings: &[Binding]) -> Result<Block, AllocError>
+        ensures { IfOk result (λ block. IsAlike block (at_beginning (names_of (bindings_list bindings.now)))) }
+    {
+        let mut block = Block::new(alloc);
+        block.declare_all(bindings)?;
+        Ok(block)
     }
 
     fn declare_item(&mut self, item: &Item) -> Result<(), AllocError>

@@ -2,8 +2,10 @@
 #![tactic(auto)]
 
 mod block;
+mod declaration;
 mod scopes;
 mod script;
+mod statement;
 mod uses;
 
 pub use script::judge;
