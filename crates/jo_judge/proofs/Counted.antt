@@ -15,7 +15,7 @@ either-swap true true c = refl
 either-swap true false c = refl
 either-swap false b c = refl
 
-put-front : (x : ℕ) (rest names : List ℕ) (n : ℕ) → is_among (rest ++ x ∷ names) n ≡ is_among (x ∷ (rest ++ names)) n
+pub put-front : (x : ℕ) (rest names : List ℕ) (n : ℕ) → is_among (rest ++ x ∷ names) n ≡ is_among (x ∷ (rest ++ names)) n
 put-front x [] names n = refl
 put-front x (y ∷ rest) names n =
     ap (λ b. nat_eq y n || b) (put-front x rest names n) ∙ either-swap (nat_eq y n) (nat_eq x n) (is_among (rest ++ names) n)

@@ -4,3 +4,4 @@ pub mod Turns
 pub mod Counted
 pub mod Judging
 pub mod Steps
+pub mod Stated

@@ -1,7 +1,8 @@
 -- What private functions do to the names of blocks, and what they answer.
 use Rattle.std.specs.Prelude.{◌≡◌, ℕ, List, [], ◌∷◌, ◌++◌, Result, Ok, Err}
 use Rattle.jo_tree.specs.Blocks.{names_of}
-use Rattle.jo_tree.specs.ScriptViews.{let_list, statement_tree}
+use Rattle.jo_tree.specs.ScriptViews.{let_list, option_tree, statement_tree}
+use Rattle.jo_tree.specs.declared.script.For.{For}
 use Rattle.jo_tree.specs.Trees.{Binding}
 use Rattle.jo_tree.specs.declared.script.Item.{Item}
 use Rattle.jo_tree.specs.declared.script.Item.TheVariants as i
@@ -68,6 +69,10 @@ binding_faults scopes b = faults_of_name scopes.0 b.0 ++ faults_of_uses (all_of 
 abbrev pub item_faults : Scopes → Item → List Found
 item_faults scopes (i.Let l) = faults_of_bindings scopes.0 scopes.1 (let_list l)
 item_faults scopes (i.Statement x) = faults_of (all_of scopes) (statement_tree x)
+
+-- the faults behind the head of a `for`, in its block and those around it
+abbrev pub round_faults : List Scope → For → List Found
+round_faults scopes x = faults_of_uses scopes (uses_of_optional (option_tree x.condition) ++ uses_of_optional (option_tree x.step)) ++ faults_of scopes (statement_tree x.body)
 
 -- the block behind an item of it
 abbrev pub behind_item : Scope → Item → Scope

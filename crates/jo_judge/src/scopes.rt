@@ -8,7 +8,7 @@ ghost use Rattle.jo_tree.specs.ScriptViews.{bindings_list, items_list};
 use crate::block::Block;
 use jo_lex::ParseFault;
 use jo_tree::{Binding, Item};
-use std::alloc::Global;
+use std::alloc::{AllocError, Global};
 use std::marker::Model;
 use std::mem;
 
@@ -82,13 +82,20 @@ impl Scopes {
         }
     }
 
+    fn push(&mut self, block: Block) -> Result<(), AllocError>
+        ensures { OnOk result (self.new ≡ (block, all_of self.old)) }
+    {
+        let before = mem::replace(&mut self.innermost, block);
+        self.outer.push(before)?;
+        Ok(())
+    }
+
     /// Goes into a block.
     pub(crate) fn enter(&mut self, block: Block) -> Result<(), ParseFault>
         ensures err { IfErr result (λ fault. fault ≡ ParseFault.Memory) }
         ensures ok { OnOk result (self.new ≡ (block, all_of self.old)) }
     {
-        let before = mem::replace(&mut self.innermost, block);
-        match self.outer.push(before) {
+        match self.push(block) {
             Ok(()) => Ok(()),
             Err(_) => Err(ParseFault::Memory),
         }

@@ -1,7 +1,7 @@
 // Statements, and the items of blocks.
-ghost use Rattle.std.specs.Prelude.{◌≡◌, OnOk};
+ghost use Rattle.std.specs.Prelude.{◌≡◌, ◌++◌, OnOk};
 ghost use Rattle.jo_scope.specs.Declarations.{at_beginning, at_end, faults_of, faults_of_head, faults_of_items, faults_of_uses, uses_of, uses_of_all, uses_of_optional};
-ghost use Rattle.jo_judge.specs.Blocks.{Enters, Judges, Moves, all_of, answer_to, behind_item,  item_faults, refused};
+ghost use Rattle.jo_judge.specs.Blocks.{Enters, Judges, Moves, all_of, answer_to, behind_item,  item_faults, refused, round_faults};
 ghost use Rattle.jo_tree.specs.Blocks.{declared_by, declared_in, names_of};
 ghost use Rattle.jo_tree.specs.ScriptViews.{bindings_list, head_tree, if_tree, items_list, option_tree, optional_statement, statement_tree, trees_list};
 ghost use Rattle.jo_tree.specs.Trees.{declares, for, while};
@@ -45,6 +45,21 @@ impl Scopes {
         fault(self.optional(expr))
     }
 
+    #[tactic(auto, using(crate::proofs::Turns::uses))]
+    fn both(&self, first: &Option<Expr>, then: &Option<Expr>) -> Result<(), Refusal>
+        ensures { result ≡ answer_to (faults_of_uses (all_of self.now) (uses_of_optional (option_tree first.now) ++ uses_of_optional (option_tree then.now))) }
+    {
+        self.optional(first)?;
+        self.optional(then)
+    }
+
+    #[tactic(auto, using(crate::proofs::Judging::judging))]
+    fn steps(&self, first: &Option<Expr>, then: &Option<Expr>) -> Result<(), ParseFault>
+        ensures { Judges (faults_of_uses (all_of self.now) (uses_of_optional (option_tree first.now) ++ uses_of_optional (option_tree then.now))) result }
+    {
+        fault(self.both(first, then))
+    }
+
     #[tactic(auto, using(crate::proofs::Judging::judging))]
     fn print(&self, exprs: &[Expr]) -> Result<(), ParseFault>
         ensures { Judges (faults_of_uses (all_of self.now) (uses_of_all (trees_list exprs.now))) result }
@@ -62,6 +77,7 @@ impl Scopes {
     }
 
     // Goes into the block of a `for`, and behind the first part of its head.
+    #[tactic(auto, using(crate::proofs::Stated::entering))]
     fn head(&mut self, head: &ForHead) -> Result<(), ParseFault>
         ensures judged { Judges (faults_of_head (all_of self.old) (head_tree head.now)) result }
         ensures entered { OnOk result (Enters self.old (at_end (declared_by (head_tree head.now))) self.new) }
@@ -76,6 +92,7 @@ impl Scopes {
     }
 
     #[cycle(statements)]
+    #[tactic(auto, using(crate::proofs::Stated::stating))]
     fn statement(&mut self, statement: &Statement) -> Result<(), ParseFault>
         ensures judged { Judges (faults_of (all_of self.old) (statement_tree statement.now)) result }
         ensures same { OnOk result (self.new ≡ self.old) }
@@ -119,11 +136,19 @@ impl Scopes {
         ensures same { OnOk result (self.new ≡ self.old) }
     {
         self.head(&repeat.head)?;
-        self.step(&repeat.condition)?;
-        self.step(&repeat.step)?;
-        self.statement(&repeat.body)?;
+        self.round(repeat)?;
         self.leave();
         Ok(())
+    }
+
+    // What stands behind the head of a `for`.
+    #[cycle(statements)]
+    fn round(&mut self, repeat: &For) -> Result<(), ParseFault>
+        ensures judged { Judges (round_faults (all_of self.old) repeat.now) result }
+        ensures same { OnOk result (self.new ≡ self.old) }
+    {
+        self.steps(&repeat.condition, &repeat.step)?;
+        self.statement(&repeat.body)
     }
 
     #[cycle(statements)]

@@ -1,11 +1,10 @@
-use Rattle.std.proofs.Common.{◌≡◌, OnOk, ℕ, ◌+◌, ◌-◌, ◌*◌, ◌<◌, ◌≤◌, length}
-use Rattle.jo_scope.specs.Declarations.{at_beginning, at_end, faults_of, faults_of_head, faults_of_items, faults_of_uses, uses_of, uses_of_all, uses_of_optional}
-use Rattle.jo_judge.specs.Blocks.{Enters, Judges, Moves, all_of, answer_to, behind_item, item_faults, refused}
-use Rattle.jo_tree.specs.Blocks.{declared_by, declared_in, names_of}
-use Rattle.jo_tree.specs.ScriptViews.{bindings_list, head_tree, if_tree, items_list, option_tree, optional_statement, statement_tree, trees_list}
-use Rattle.jo_tree.specs.Trees.{declares, for, while}
-use Rattle.jo_tree.specs.Views.{expr_tree}
+use Rattle.std.proofs.Common.{◌≡◌, drop}
+use Rattle.jo_scope.specs.Declarations.{faults_of_items}
+use Rattle.jo_tree.specs.ScriptViews.{items_list}
+use Rattle.jo_judge.specs.Blocks.{answer_to}
 use Rattle.jo_judge.proofs.scopes.Scopes.+statements.Given as goal
 
 abbrev pub invariant-items-loop-item : goal.invariant-items-loop-item
-invariant-items-loop-item l = ?
+invariant-items-loop-item l =
+    (answer_to (faults_of_items l.fn.self.0 l.fn.self.1 (items_list l.items)) ≡ answer_to (faults_of_items l.self.0 l.self.1 (items_list (drop l.item-index l.items))))
+    × (l.self.1 ≡ l.fn.self.1)
