@@ -1,11 +1,11 @@
 -- Faults hang only on which names the blocks declare, and of which a binding has ended.
-use Rattle.std.proofs.Common.{◌≡◌, ℕ, Bool, true, false, List, [], ◌∷◌, ◌++◌, Option, refl, ap, sym, ◌∙◌}
+use Rattle.std.proofs.Common.{◌≡◌, ℕ, List, [], ◌∷◌, ◌++◌, refl, ap, sym, ◌∙◌}
 use Rattle.std.specs.Prelude.{nat_eq, ◌||◌, if◌then◌else◌}
 use Rattle.jo_tree.specs.declared.word.Ident.{Ident}
 use Rattle.jo_tree.specs.Blocks.{names_of, declared_in, declared_by}
 use Rattle.jo_tree.specs.Trees.{Binding, Head, declares, begins, Statement, empty, block, when, either, while, for, break, continue, print, print_names, run, Items, no_items, declare, perform}
 use Rattle.jo_scope.specs.Declarations.{Scope, Found, at_beginning, at_end, behind, behind_all, is_among, is_bound, uses_of, uses_of_optional, uses_of_all, twice, undeclared, faults_of_uses, faults_of_name, faults_of_bindings, faults_of_head, faults_of, faults_of_items}
-use Rattle.jo_judge.specs.Blocks.{IsAlike, HasSame}
+use Rattle.jo_judge.specs.Blocks.{IsAlike}
 
 -- uses mean the same in both
 abbrev pub BindsSame : List Scope → List Scope → Type 0

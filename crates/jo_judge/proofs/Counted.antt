@@ -32,10 +32,11 @@ pub declares-turn : (s t new : Scope) (bindings : List Binding) (i : ℕ) (b : B
     → IsAlike (with_names s (names_of (bindings_list (drop i bindings)))) t → Declares s b.ident.text.0 new
     → IsAlike (with_names new (names_of (bindings_list (drop (i + 1) bindings)))) t
 declares-turn s t new bindings i b below is h d =
-    let rest = names_of (bindings_list (drop (i + 1) bindings)) in
-    ((λ n. behind-same rest new.names (b.ident.text.0 ∷ s.names) d.0 n ∙ (put-front b.ident.text.0 rest s.names n
-      ∙ (ap (λ v. is_among (names_of (bindings_list v) ++ s.names) n) (sym (drop-at bindings i b below is)) ∙ h.0 n))),
-    (λ n. d.1 n ∙ h.1 n))
+    let rest = names_of (bindings_list (drop (i + 1) bindings)) in (
+      (λ n. behind-same rest new.names (b.ident.text.0 ∷ s.names) d.0 n ∙ (put-front b.ident.text.0 rest s.names n
+          ∙ (ap (λ v. is_among (names_of (bindings_list v) ++ s.names) n) (sym (drop-at bindings i b below is)) ∙ h.0 n))),
+      (λ n. d.1 n ∙ h.1 n),
+    )
 
 declared_in-item : (x : Item) (xs : List Item) → declared_in (items_list (x ∷ xs)) ≡ item_names x ++ declared_in (items_list xs)
 declared_in-item (i.Let l) xs = refl
@@ -46,10 +47,11 @@ pub items-declare-turn : (s t new : Scope) (items : List Item) (i : ℕ) (x : It
     → IsAlike (with_names new (declared_in (items_list (drop (i + 1) items)))) t
 items-declare-turn s t new items i x below is h d =
     let rest = declared_in (items_list (drop (i + 1) items)) in
-    let whole = ap (λ v. declared_in (items_list v)) (drop-at items i x below is) ∙ declared_in-item x (drop (i + 1) items) in
-    ((λ n. behind-same rest new.names (item_names x ++ s.names) d.0 n ∙ (put-all-front (item_names x) rest s.names n
-      ∙ (ap (λ v. is_among (v ++ s.names) n) (sym whole) ∙ h.0 n))),
-    (λ n. d.1 n ∙ h.1 n))
+    let whole = ap (λ v. declared_in (items_list v)) (drop-at items i x below is) ∙ declared_in-item x (drop (i + 1) items) in (
+      (λ n. behind-same rest new.names (item_names x ++ s.names) d.0 n ∙ (put-all-front (item_names x) rest s.names n
+          ∙ (ap (λ v. is_among (v ++ s.names) n) (sym whole) ∙ h.0 n))),
+      (λ n. d.1 n ∙ h.1 n),
+    )
 
 pub begun : (names : List ℕ) → IsAlike (with_names (at_beginning []) names) (at_beginning names)
 begun names = ((λ n. ap (λ v. is_among v n) (append-nil names)), (λ n. refl))

@@ -1,10 +1,9 @@
 -- What is answered to the faults of parts that follow one another, where memory may be wanting.
-use Rattle.std.proofs.Common.{◌≡◌, ◌<◌, ◌+◌, ℕ, List, [], ◌∷◌, ◌++◌, Result, Ok, Err, refl, ap, sym, subst, ◌∙◌, append_assoc, length, drop, get_or}
+use Rattle.std.proofs.Common.{◌≡◌, List, [], ◌∷◌, ◌++◌, Result, Ok, Err, refl, ap, subst, ◌∙◌}
 use Rattle.jo_lex.specs.declared.refusal.ParseFault.{ParseFault}
 use Rattle.jo_lex.specs.declared.refusal.ParseFault.TheVariants.{Memory, Refused}
-use Rattle.jo_lex.specs.declared.refusal.Refusal.{Refusal}
 use Rattle.jo_scope.specs.Declarations.{Found}
-use Rattle.jo_judge.specs.Blocks.{answer_to, and_then, refused, Judges}
+use Rattle.jo_judge.specs.Blocks.{answer_to, refused, Judges}
 use Rattle.jo_judge.proofs.Turns.{answer_to-append, after_err, after_ok}
 
 pub judges-refused : (faults : List Found) → Judges faults (refused (answer_to faults))

@@ -5,3 +5,4 @@ pub mod Counted
 pub mod Judging
 pub mod Steps
 pub mod Stated
+pub mod Scripts

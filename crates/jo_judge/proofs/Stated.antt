@@ -3,11 +3,11 @@ use Rattle.std.proofs.Common.{◌≡◌, ℕ, List, [], ◌∷◌, ◌++◌, Res
 use Rattle.std.specs.Prelude.{OnOk}
 use Rattle.jo_tree.specs.declared.script.For.{For}
 use Rattle.jo_tree.specs.declared.script.Item.{Item}
-use Rattle.jo_tree.specs.Blocks.{names_of, declared_in}
+use Rattle.jo_tree.specs.Blocks.{names_of}
 use Rattle.jo_tree.specs.Trees.{Binding}
 use Rattle.jo_tree.specs.ScriptViews.{items_list, option_tree, statement_tree}
 use Rattle.jo_tree.proofs.ScriptShapes.{script_shapes, statement_tree-block}
-use Rattle.jo_scope.specs.Declarations.{Scope, Found, at_beginning, at_end, behind, behind_all, is_among, is_bound, uses_of_optional, faults_of, faults_of_uses, faults_of_bindings, faults_of_items}
+use Rattle.jo_scope.specs.Declarations.{Scope, at_beginning, at_end, behind, behind_all, is_among, is_bound, uses_of_optional, faults_of, faults_of_uses, faults_of_bindings, faults_of_items}
 use Rattle.jo_judge.specs.Blocks.{Scopes, all_of, IsAlike, Enters, Moves, round_faults}
 use Rattle.jo_judge.proofs.Alike.{BindsSame, alike_then, binds-inside, bindings-same, behind_all-alike, items-same, uses-same, faults-same}
 use Rattle.jo_judge.proofs.Counted.{put-front}
@@ -53,10 +53,11 @@ all-ended bindings =
 
 pub head-ended : (scopes inner new : Scopes) (bindings : List Binding) → Enters scopes (at_beginning (names_of bindings)) inner → Moves inner (behind_all inner.0 bindings) new → Enters scopes (at_end (names_of bindings)) new
 head-ended scopes inner new bindings h moves =
-    let s = at_beginning (names_of bindings) in
-    (alike_then new.0 (behind_all inner.0 bindings) (at_end (names_of bindings)) moves.0
-      (alike_then (behind_all inner.0 bindings) (behind_all s bindings) (at_end (names_of bindings)) (behind_all-alike inner.0 s bindings h.0) (all-ended bindings)),
-    moves.1 ∙ h.1)
+    let s = at_beginning (names_of bindings) in (
+      alike_then new.0 (behind_all inner.0 bindings) (at_end (names_of bindings)) moves.0
+          (alike_then (behind_all inner.0 bindings) (behind_all s bindings) (at_end (names_of bindings)) (behind_all-alike inner.0 s bindings h.0) (all-ended bindings)),
+      moves.1 ∙ h.1,
+    )
 
 pub on_ok : {A E : Type 0} {P Q : Type 0} (r : Result A E) → (P → Q) → OnOk r P → OnOk r Q
 on_ok (Ok x) f p = f p

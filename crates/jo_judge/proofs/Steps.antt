@@ -1,10 +1,10 @@
 -- The faults of declarations and of items, one after another.
-use Rattle.std.proofs.Common.{◌≡◌, ◌<◌, ◌+◌, ℕ, List, [], ◌∷◌, ◌++◌, length, drop, get_or, refl, ap, sym, ◌∙◌, append_assoc, subst}
+use Rattle.std.proofs.Common.{◌≡◌, ◌<◌, ◌+◌, ℕ, List, ◌∷◌, ◌++◌, length, drop, get_or, refl, ap, sym, ◌∙◌, append_assoc, subst}
 use Rattle.jo_tree.specs.declared.script.Binding.{Binding}
 use Rattle.jo_tree.specs.declared.script.Item.{Item}
 use Rattle.jo_tree.specs.declared.script.Item.TheVariants as i
 use Rattle.jo_tree.specs.ScriptViews.{binding_tree, bindings_list, items_list}
-use Rattle.jo_scope.specs.Declarations.{Scope, Found, behind, behind_all, is_bound, uses_of_optional, faults_of_name, faults_of_uses, faults_of_bindings, faults_of_items}
+use Rattle.jo_scope.specs.Declarations.{Scope, behind, behind_all, is_bound, uses_of_optional, faults_of_name, faults_of_uses, faults_of_bindings, faults_of_items}
 use Rattle.jo_judge.specs.Blocks.{Scopes, all_of, IsAlike, Ends, Moves, binding_faults, item_faults, behind_item}
 use Rattle.jo_judge.proofs.Turns.{drop-at}
 use Rattle.jo_judge.proofs.Alike.{alike_then, bindings-same, behind_all-alike, items-same}

@@ -1,21 +1,20 @@
 -- What is answered to the faults of the uses of parts that follow one another.
 use Rattle.std.proofs.Common.{◌≡◌, ◌<◌, ℕ, ◌+◌, List, [], ◌∷◌, ◌++◌, Bool, true, false, Result, Ok, Err, refl, ap, sym, ◌∙◌, arith, drop, length, get_or, append-nil, add-one, suc}
 use Rattle.std.proofs.Math.Seq.{drop-cons}
-use Rattle.std.specs.Prelude.{if◌then◌else◌}
 use Rattle.jo_lex.specs.declared.refusal.Refusal.{Refusal}
 use Rattle.jo_tree.specs.declared.word.Ident.{Ident}
 use Rattle.jo_tree.specs.declared.expr.Expr.{Expr, more_of-Expr, end_of-Expr}
 use Rattle.jo_tree.specs.declared.expr.Access.{Access}
-use Rattle.jo_tree.specs.declared.expr.Binary.{Binary, out-Binary, roll-Binary, roll-out-Binary}
+use Rattle.jo_tree.specs.declared.expr.Binary.{Binary, out-Binary, roll-out-Binary}
 use Rattle.jo_tree.specs.declared.expr.Link.{Link}
-use Rattle.jo_tree.specs.declared.expr.Object.{Object, out-Object, roll-Object, roll-out-Object}
+use Rattle.jo_tree.specs.declared.expr.Object.{Object, out-Object, roll-out-Object}
 use Rattle.jo_tree.specs.declared.expr.Prop.{Prop}
 use Rattle.jo_tree.specs.declared.expr.Access.TheVariants as a
 use Rattle.jo_tree.specs.declared.expr.Chain.TheVariants as h
 use Rattle.jo_tree.specs.Trees.{chain, object, no_accesses}
 use Rattle.jo_tree.specs.Views.{expr_tree, chain_tree, object_tree, links_list, props_list, accesses_list, accesses_with}
 use Rattle.jo_tree.specs.ScriptViews.{trees_list}
-use Rattle.jo_scope.specs.Declarations.{Scope, Found, undeclared, is_bound, faults_of_uses, uses_of, uses_of_accesses, uses_of_all, uses_of_links, uses_of_props}
+use Rattle.jo_scope.specs.Declarations.{Scope, Found, faults_of_uses, uses_of, uses_of_accesses, uses_of_all, uses_of_links, uses_of_props}
 use Rattle.jo_judge.specs.Blocks.{answer_to, and_then}
 use Rattle.jo_tree.proofs.Shapes.{shapes, chain_tree-binary, object_tree-of}
 

@@ -1,4 +1,4 @@
-use Rattle.std.proofs.Common.{◌≡◌, ◌∷◌, ◌∙◌, ap}
+use Rattle.std.proofs.Common.{◌∷◌, ◌∙◌, ap}
 use Rattle.jo_scope.specs.Declarations.{is_among}
 use Rattle.jo_judge.proofs.Names.{one-put}
 use Rattle.jo_judge.proofs.block.Block.declare.Goals as goal

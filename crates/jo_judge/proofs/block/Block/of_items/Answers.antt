@@ -1,7 +1,6 @@
 use Rattle.jo_tree.specs.Blocks.{declared_in}
 use Rattle.jo_tree.specs.ScriptViews.{items_list}
 use Rattle.jo_scope.specs.Declarations.{at_beginning}
-use Rattle.jo_judge.specs.Blocks.{IsAlike, with_names}
 use Rattle.jo_judge.proofs.Counted.{items-declare-turn, begun}
 use Rattle.jo_judge.proofs.block.Block.of_items.Goals as goal
 

@@ -1,9 +1,9 @@
-use Rattle.std.proofs.Common.{rules, ◌≡◌, ◌∙◌, ◌∷◌, ◌+◌, ap, drop, refl, Err}
+use Rattle.std.proofs.Common.{rules, ◌∙◌, ◌∷◌, ◌+◌, ap, drop, refl, Err}
 use Rattle.jo_tree.specs.Blocks.{declared_by, declared_in}
 use Rattle.jo_tree.specs.ScriptViews.{head_tree, items_list}
 use Rattle.jo_scope.specs.Declarations.{at_beginning, at_end, faults_of_head, faults_of_items}
 use Rattle.jo_judge.specs.Blocks.{all_of, answer_to, round_faults}
-use Rattle.jo_judge.proofs.Judging.{judged_left, judged_same, judged_then, judged_ok, left_on}
+use Rattle.jo_judge.proofs.Judging.{judged_left, judged_same, judged_then, left_on}
 use Rattle.jo_judge.proofs.Stated.{enters, items-entered, round-entered}
 use Rattle.jo_judge.proofs.Steps.{items-at, items-on}
 use Rattle.jo_judge.proofs.scopes.Scopes.+statements.Goals as goal
@@ -13,7 +13,7 @@ block-returns-in_err-items-clause-judged t c =
     let scope = at_beginning (declared_in (items_list c.args.items.now)) in
     let h = enters c.args.self.now c.enter.new.self _ scope c.in_ok-enter.ensures.ok c.in_ok-of_items.ensures.ok in
     let w = judged_same (faults_of_items scope (all_of c.args.self.now) (items_list c.args.items.now)) _ (Err c.in_err-items.field-0.0)
-      (ap answer_to (items-entered c.args.self.now c.enter.new.self scope c.args.items.now h)) c.in_err-items.ensures.judged in
+    (ap answer_to (items-entered c.args.self.now c.enter.new.self scope c.args.items.now h)) c.in_err-items.ensures.judged in
     search rules
 
 pub block-returns-clause-judged : goal.block-returns-clause-judged

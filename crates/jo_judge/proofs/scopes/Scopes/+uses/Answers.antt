@@ -1,9 +1,8 @@
-use Rattle.std.proofs.Common.{rules, arith, ◌≡◌, ◌∙◌, sym, ap}
-use Rattle.std.proofs.lemmas.Grind.{common_steps}
+use Rattle.std.proofs.Common.{rules, ◌∙◌, sym, ap}
 use Rattle.jo_judge.specs.Blocks.{all_of, answer_to}
 use Rattle.jo_scope.specs.Declarations.{faults_of_uses, uses_of}
 use Rattle.jo_tree.specs.Views.{expr_tree}
-use Rattle.jo_judge.proofs.Turns.{links-turn, props-turn, accesses-turn, after_ok, after_err, uses}
+use Rattle.jo_judge.proofs.Turns.{links-turn, props-turn, accesses-turn, after_ok, after_err}
 use Rattle.jo_judge.proofs.scopes.Scopes.+uses.Goals as goal
 
 pub accesses-returns-in_err-access : goal.accesses-returns-in_err-access

@@ -1,7 +1,5 @@
-use Rattle.std.proofs.Common.{rules, ◌≡◌, ◌∙◌, ap, sym, drop, ◌+◌}
-use Rattle.jo_scope.specs.Declarations.{behind_all, faults_of_bindings}
-use Rattle.jo_tree.specs.ScriptViews.{binding_tree, bindings_list}
-use Rattle.jo_judge.specs.Blocks.{answer_to, binding_faults}
+use Rattle.std.proofs.Common.{rules, ◌∙◌, ap, drop, ◌+◌}
+use Rattle.jo_judge.specs.Blocks.{answer_to}
 use Rattle.jo_judge.proofs.Judging.{judged_left, left_on}
 use Rattle.jo_judge.proofs.Steps.{bindings-at, bindings-on, bindings-alike}
 use Rattle.jo_judge.proofs.scopes.Scopes.bindings.Goals as goal
@@ -21,7 +19,8 @@ loop-binding-preserved c =
     let at = bindings-at s all i b c.loop-binding-test.true c.binding-item.is in
     let left = left_on _ _ _ _ c.loop-binding.invariant.0 at c.binding.ensures.judged c.in_ok-binding.was in
     let ends = c.in_ok-binding.ensures.block in
-    let outer = c.in_ok-binding.ensures.outer in
-    (left ∙ ap answer_to (bindings-on s c.binding.new.self (drop (i + 1) all) b ends outer),
-    bindings-alike s c.binding.new.self _ all i b c.loop-binding-test.true c.binding-item.is c.loop-binding.invariant.1 ends,
-    outer ∙ c.loop-binding.invariant.2)
+    let outer = c.in_ok-binding.ensures.outer in (
+      left ∙ ap answer_to (bindings-on s c.binding.new.self (drop (i + 1) all) b ends outer),
+      bindings-alike s c.binding.new.self _ all i b c.loop-binding-test.true c.binding-item.is c.loop-binding.invariant.1 ends,
+      outer ∙ c.loop-binding.invariant.2,
+    )
