@@ -6,6 +6,8 @@ mod declaration;
 mod scopes;
 mod script;
 mod statement;
+#[cfg(test)]
+mod tests;
 mod uses;
 
 pub use script::judge;
