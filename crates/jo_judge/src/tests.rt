@@ -78,8 +78,10 @@ fn item_of(alloc: Global, part: Part, place: u32) -> Result<Item, AllocError> {
 
 fn script_of(alloc: Global, parts: &[Part]) -> Result<Script, AllocError> {
     let mut items = Items::new(alloc);
-    for place in 0..parts.len() {
-        items.push(item_of(alloc, parts[place], place as u32)?)?;
+    let mut place = 0u32;
+    for part in parts {
+        items.push(item_of(alloc, *part, place)?)?;
+        place = place.saturating_add(1);
     }
     Ok(Script { items })
 }
