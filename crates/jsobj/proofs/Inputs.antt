@@ -1,5 +1,5 @@
 -- From what was read to the whole input.
-use Rattle.std.proofs.Common.{◌≡◌, ℕ, ◌≤◌, ◌<◌, ◌+◌, List, [], ◌++◌, sym, ap, ◌∙◌, subst, refl, inl, inr, length, arith, append-nil, length-append}
+use Rattle.std.proofs.Common.{◌≡◌, ℕ, ◌≤◌, ◌<◌, ◌+◌, List, ◌++◌, sym, ap, ◌∙◌, subst, refl, inl, inr, length, arith, append-nil, length-append}
 use Rattle.std.specs.Prelude.{◌⊎◌, Option, Some, None, IfSome}
 use Rattle.std.specs.Io.KnownBytes.{Consumes, IsAtEnd}
 use Rattle.jo_value.specs.declared.limits.TheConstants.{MOST_INPUT}
