@@ -4,14 +4,21 @@ ghost use Rattle.jo_judge.specs.Judged.{IsNameFault};
 ghost use Rattle.jo_scope.specs.Declarations.{IsDeclared};
 ghost use Rattle.jo_tree.specs.ScriptViews.{script_tree};
 
+use crate::block::Block;
+use crate::scopes::Scopes;
 use jo_lex::ParseFault;
 use jo_tree::Script;
 use std::alloc::Global;
 
 /// Whether each use of a name means a binding that has ended, and no block declares a name twice; or the first fault.
-pub fn judge(_alloc: Global, _script: &Script) -> Result<(), ParseFault>
-    ensures ok { OnOk result (IsDeclared (script_tree _script.now)) }
-    ensures refused { IfErr result (IsNameFault (script_tree _script.now)) }
+pub fn judge(alloc: Global, script: &Script) -> Result<(), ParseFault>
+    ensures ok { OnOk result (IsDeclared (script_tree script.now)) }
+    ensures refused { IfErr result (IsNameFault (script_tree script.now)) }
 {
-    Err(ParseFault::Memory)
+    let items = script.items.as_slice();
+    let Ok(block) = Block::of_items(alloc, items) else {
+        return Err(ParseFault::Memory);
+    };
+    let mut scopes = Scopes::new(alloc, block);
+    scopes.items(items)
 }
