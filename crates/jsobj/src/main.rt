@@ -2,8 +2,8 @@
 #![tactic(auto)]
 
 mod run;
-
-
+#[cfg(test)]
+mod tests;
 
 use jo_io::{StdSink, StdSource};
 use run::{Status, run};
