@@ -1,3 +1,4 @@
 pub mod Outputs
 pub mod OneScript
 pub mod Runnable
+pub mod Worked

@@ -1,0 +1,91 @@
+-- Worked cases: the form and the output text of scripts, and the lines of refusals, by computation.
+use Rattle.std.proofs.Common.{refl}
+use Rattle.std.specs.Prelude.{◌≡◌, ℕ, pos, false, [], ◌∷◌, codes, Some, None}
+use Rattle.std.specs.Fmt.{digits}
+use Rattle.jo_value.specs.Texts.{Table}
+use Rattle.jo_value.specs.declared.value.NameId.{NameId}
+use Rattle.jo_value.specs.declared.value.Key.TheVariants.{Name}
+use Rattle.jo_value.specs.declared.value.Value.TheVariants.{Int}
+use Rattle.jo_lex.specs.declared.refusal.RefusalKind.TheVariants.{NestedTooDeep}
+use Rattle.jo_tree.specs.declared.keyword.Keyword.TheVariants as keyword
+use Rattle.jo_tree.specs.declared.operator.AssignOperator.TheVariants.{Set}
+use Rattle.jo_tree.specs.declared.word.Name.TheVariants.{Ident, Keyword}
+use Rattle.jo_tree.specs.Trees.{Tree, number, constant, group, member, assign, no_accesses, field, Statement, empty, print, run, Items, no_items, perform}
+use Rattle.jo_model.specs.declared.call.Call.TheVariants.{Put}
+use Rattle.jo_model.specs.declared.call.Outcome.TheVariants as outcome
+use Rattle.jo_model.specs.declared.call.Reply.TheVariants.{Done}
+use Rattle.jo_model.specs.Heaps.{shared}
+use Rattle.jo_model.specs.History.{Entry}
+use Rattle.jo_meaning.specs.Histories.{played_alone}
+use Rattle.jo_meaning.specs.Output.{output}
+use Rattle.jo_form.specs.declared.form.Step.TheVariants as step
+use Rattle.jo_form.specs.Forms.{form_of}
+use Rattle.jo_answer.specs.Lines.{refusal_line}
+
+-- ---- words of the cases
+
+abbrev texts : Table
+texts = codes "shared" ∷ codes "x" ∷ codes "y" ∷ codes "print" ∷ codes "z" ∷ codes "in" ∷ []
+
+-- `shared.name`, by the number of the name
+abbrev read : ℕ → Tree
+read n = member (constant keyword.Shared) (field (Ident (record { text = record { 0 = n }; place = 0; is_proto = false })) no_accesses)
+
+abbrev named : ℕ → NameId
+named n = record { 0 = n }
+
+-- `shared.name = i;`
+abbrev put : ℕ → ℕ → Statement
+put n i = run (assign Set (read n) (number (pos i)))
+
+abbrev alone : Statement → Items
+alone statement = perform statement no_items
+
+-- `shared.x = 1; shared.y = 2; print(shared.x, shared.z);`
+abbrev first : Items
+first = perform (put 1 1) (perform (put 2 2) (alone (print (read 1 ∷ read 4 ∷ []))))
+
+-- ---- forms
+
+pub the_first_script_has_three_steps : form_of texts first ≡ Some (step.Put (named 1) (pos 1) ∷ step.Put (named 2) (pos 2) ∷ step.Print (named 1 ∷ named 4 ∷ []) ∷ [])
+the_first_script_has_three_steps = refl
+
+pub a_reserved_word_may_be_a_name : form_of texts (alone (print (member (constant keyword.Shared) (field (Keyword keyword.In) no_accesses) ∷ []))) ≡ Some (step.Print (named 5 ∷ []) ∷ [])
+a_reserved_word_may_be_a_name = refl
+
+pub brackets_are_no_form : form_of texts (alone (run (assign Set (read 1) (group (number (pos 1)))))) ≡ None
+brackets_are_no_form = refl
+
+pub a_print_of_nothing_is_no_form : form_of texts (alone (print [])) ≡ None
+a_print_of_nothing_is_no_form = refl
+
+pub an_empty_statement_is_no_form : form_of texts (alone empty) ≡ None
+an_empty_statement_is_no_form = refl
+
+-- ---- output texts
+
+-- one script alone: its line, its outcome and the object
+pub the_first_script_writes_three_lines :
+    output texts 0 (played_alone first texts 0).history (first ∷ []) ≡ codes "1| 1 undefined\n1= done\n#0.0 {\"x\": 1, \"y\": 2}\n"
+unfolding digits
+the_first_script_writes_three_lines = refl
+
+pub the_first_script_is_done : (played_alone first texts 0).outcome ≡ outcome.Done
+unfolding digits
+the_first_script_is_done = refl
+
+-- a put of a pass that was answered
+abbrev entry : ℕ → ℕ → ℕ → Entry
+entry pass n i = record { pass = pass; call = Put shared (Name (named n)) (Int (pos i)); reply = Done }
+
+-- two scripts of one put each: names stand in the order of the history, outcomes in that of the scripts
+pub two_scripts_write_their_names_in_the_order_of_the_history :
+    output texts 0 (entry 2 2 8 ∷ entry 1 1 7 ∷ []) (alone (put 1 7) ∷ alone (put 2 8) ∷ []) ≡ codes "1= done\n2= done\n#0.0 {\"y\": 8, \"x\": 7}\n"
+unfolding digits
+two_scripts_write_their_names_in_the_order_of_the_history = refl
+
+-- ---- refusals
+
+pub a_refusal_has_its_code_its_name_and_its_place : refusal_line (record { kind = NestedTooDeep; place = 317 }) ≡ codes "refused 7 NestedTooDeep at 317\n"
+unfolding digits
+a_refusal_has_its_code_its_name_and_its_place = refl
