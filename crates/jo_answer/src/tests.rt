@@ -31,6 +31,11 @@ fn an_input_is_run_or_a_line_says_why_not(rt: HostRuntime) -> Result<(), Fail> {
             not_built,
         ),
         ("%%\n", Verdict::Refused, not_built),
+        (
+            "let a = 9007199254740991; print(a); print(a + 1);\n%%\nprint(7);",
+            Verdict::Refused,
+            not_built,
+        ),
         ("", Verdict::Refused, "refused 10 NoScript at 0\n"),
         (
             "shared.x = ",
