@@ -1,0 +1,3 @@
+shared.x = 1;
+%%
+print(shared.x);

@@ -1,0 +1,2 @@
+shared.x = 1;
+if (shared.x == 1) print("one");
