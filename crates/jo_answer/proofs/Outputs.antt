@@ -26,14 +26,14 @@ stand_alone script texts turns w o of_script =
 -- the text of its lines and its outcome, and then that of the objects
 output_alone : (script : Items) (texts : Table) (heap : Heap) (lines : List ℕ) (o : Outcome) (start first text : List ℕ)
     → IsRunAlone script texts DEFAULT_TURNS heap lines o
-    → start ≡ [] → first ≡ start ++ run_text 1 lines (outcome_text o) → text ≡ first ++ heap_text texts heap → IsOutputOf (script ∷ []) texts (o ∷ []) text
+    → start ≡ [] → first ≡ start ++ run_text 1 lines (outcome_text o) → text ≡ first ++ heap_text texts heap → IsOutputOf script texts o text
 output_alone script texts heap lines o start first text run empty ran all =
     let w = (played_alone script texts DEFAULT_TURNS).history in
     let made = run_in w 1 script texts DEFAULT_TURNS in
     let objects = heap_text texts (heap_after 2 w) in
     record {
-      history = w;
-      of_scripts = run.of_script;
+      of_script = run.of_script;
+      alone = run.alone;
       text_is =
           all
           ∙ ap (λ t. t ++ heap_text texts heap) (ran ∙ ap (λ t. t ++ run_text 1 lines (outcome_text o)) empty)
@@ -43,20 +43,20 @@ output_alone script texts heap lines o start first text run empty ran all =
           ∙ ap (λ t. t ++ objects) (sym (append-nil (run_text 1 made.lines (stand_text made.stand))));
     }
 
-run_by : (script : Items) (texts : Table) (o : Outcome) (text : List ℕ) → IsOutputOf (script ∷ []) texts (o ∷ []) text → IsRunBy (verdict_of o) (script ∷ []) texts text
-run_by script texts outcome.Done text h = record { outcomes = outcome.Done ∷ []; output_is = h; ends = refl }
-run_by script texts outcome.TypeFault text h = record { outcomes = outcome.TypeFault ∷ []; output_is = h; ends = refl }
-run_by script texts outcome.NotSafe text h = record { outcomes = outcome.NotSafe ∷ []; output_is = h; ends = refl }
-run_by script texts outcome.KeyOutside text h = record { outcomes = outcome.KeyOutside ∷ []; output_is = h; ends = refl }
-run_by script texts outcome.TurnsSpent text h = record { outcomes = outcome.TurnsSpent ∷ []; output_is = h; ends = refl }
-run_by script texts outcome.OutputFull text h = record { outcomes = outcome.OutputFull ∷ []; output_is = h; ends = refl }
-run_by script texts outcome.TooManyNames text h = record { outcomes = outcome.TooManyNames ∷ []; output_is = h; ends = refl }
-run_by script texts outcome.ObjectsSpent text h = record { outcomes = outcome.ObjectsSpent ∷ []; output_is = h; ends = refl }
-run_by script texts outcome.Spent text h = record { outcomes = outcome.Spent ∷ []; output_is = h; ends = refl }
+run_by : (script : Items) (texts : Table) (o : Outcome) (text : List ℕ) → IsOutputOf script texts o text → IsRunBy (verdict_of o) script texts text
+run_by script texts outcome.Done text h = record { outcome = outcome.Done; output_is = h; ends = refl }
+run_by script texts outcome.TypeFault text h = record { outcome = outcome.TypeFault; output_is = h; ends = refl }
+run_by script texts outcome.NotSafe text h = record { outcome = outcome.NotSafe; output_is = h; ends = refl }
+run_by script texts outcome.KeyOutside text h = record { outcome = outcome.KeyOutside; output_is = h; ends = refl }
+run_by script texts outcome.TurnsSpent text h = record { outcome = outcome.TurnsSpent; output_is = h; ends = refl }
+run_by script texts outcome.OutputFull text h = record { outcome = outcome.OutputFull; output_is = h; ends = refl }
+run_by script texts outcome.TooManyNames text h = record { outcome = outcome.TooManyNames; output_is = h; ends = refl }
+run_by script texts outcome.ObjectsSpent text h = record { outcome = outcome.ObjectsSpent; output_is = h; ends = refl }
+run_by script texts outcome.Spent text h = record { outcome = outcome.Spent; output_is = h; ends = refl }
 
 pub answer_alone : (script : Items) (texts : Table) (heap : Heap) (lines : List ℕ) (o : Outcome) (start first text : List ℕ)
     → IsRunAlone script texts DEFAULT_TURNS heap lines o
     → start ≡ [] → first ≡ start ++ run_text 1 lines (outcome_text o) → text ≡ first ++ heap_text texts heap
-    → IsRunBy (verdict_of o) (script ∷ []) texts text
+    → IsRunBy (verdict_of o) script texts text
 answer_alone script texts heap lines o start first text run empty ran all =
     run_by script texts o text (output_alone script texts heap lines o start first text run empty ran all)

@@ -1,14 +1,13 @@
 -- What is due for an input.
 use Rattle.std.specs.Prelude.{◌≡◌, ◌⊎◌, ℕ, ◌≤◌, ◌<◌, Bool, true, false, List, [], ◌∷◌, length, Some}
-use Rattle.std.specs.List.{list_all}
 use Rattle.jo_value.specs.declared.limits.TheConstants.{MOST_INPUT}
 use Rattle.jo_value.specs.Texts.{Table}
 use Rattle.jo_lex.specs.declared.refusal.Refusal.{Refusal}
 use Rattle.jo_tree.specs.Trees.{Items}
 use Rattle.jo_model.specs.declared.call.Outcome.{Outcome}
 use Rattle.jo_model.specs.declared.call.Outcome.TheVariants as outcome
-use Rattle.jo_model.specs.History.{History}
-use Rattle.jo_meaning.specs.Histories.{IsHistoryOf}
+use Rattle.jo_model.specs.History.{entries_of}
+use Rattle.jo_meaning.specs.Histories.{IsHistoryOf, played_alone}
 use Rattle.jo_meaning.specs.Output.{output}
 use Rattle.jo_form.specs.declared.form.Step.{Step}
 use Rattle.jo_form.specs.declared.form.TheConstants.{MOST_FORM_BYTES}
@@ -30,28 +29,35 @@ pub record IsForm (bytes : ℕ) (scripts : List Items) (texts : Table) (steps : 
 abbrev pub IsBuilt : ℕ → List Items → Table → Type 0
 IsBuilt bytes scripts texts = (steps : List Step) × IsForm bytes scripts texts steps
 
--- The text is the output of these scripts in one legal history, in which they come to these outcomes.
-pub record IsOutputOf (scripts : List Items) (texts : Table) (outcomes : List Outcome) (text : List ℕ) : Type 0 where
-  pub history : History
-  pub of_scripts : IsHistoryOf scripts texts DEFAULT_TURNS outcomes history
-  pub text_is : text ≡ output texts DEFAULT_TURNS history scripts
+-- The history that one thread gives for a script, in pass 1 alone, is a legal one in which the script comes to this outcome, and the text
+-- is its output.
+pub record IsOutputOf (script : Items) (texts : Table) (outcome : Outcome) (text : List ℕ) : Type 0 where
+  pub of_script : IsHistoryOf (script ∷ []) texts DEFAULT_TURNS (outcome ∷ []) (played_alone script texts DEFAULT_TURNS).history
+  pub alone : entries_of 1 (played_alone script texts DEFAULT_TURNS).history ≡ (played_alone script texts DEFAULT_TURNS).history
+  pub text_is : text ≡ output texts DEFAULT_TURNS (played_alone script texts DEFAULT_TURNS).history (script ∷ [])
 
 abbrev pub is_done : Outcome → Bool
 is_done outcome.Done = true
 is_done _ = false
 
--- the text is the output of these scripts, and each of them is done, or some is not
-pub record IsRunOf (well : Bool) (scripts : List Items) (texts : Table) (text : List ℕ) : Type 0 where
-  pub outcomes : List Outcome
-  pub output_is : IsOutputOf scripts texts outcomes text
-  pub ends : list_all is_done outcomes ≡ well
+-- the text is the output of the script, which is done, or is not
+pub record IsRunOf (well : Bool) (script : Items) (texts : Table) (text : List ℕ) : Type 0 where
+  pub outcome : Outcome
+  pub output_is : IsOutputOf script texts outcome text
+  pub ends : is_done outcome ≡ well
 
--- the bytes are an accepted set, and the text is the output of its scripts
+-- the set that so many bytes are is built, and the text is the output of its script
+pub record IsRunOfSet (well : Bool) (bytes : ℕ) (scripts : List Items) (texts : Table) (text : List ℕ) : Type 0 where
+  pub steps : List Step
+  pub form : IsForm bytes scripts texts steps
+  pub run : IsRunOf well form.script texts text
+
+-- the bytes are an accepted set that is built, and the text is the output of its script
 pub record IsRun (well : Bool) (bytes text : List ℕ) : Type 0 where
   pub scripts : List Items
   pub texts : Table
   pub set : IsAcceptedSet bytes scripts texts
-  pub run : IsRunOf well scripts texts text
+  pub run : IsRunOfSet well (length bytes) scripts texts text
 
 -- the bytes are refused, and the text says for what and where
 pub record IsRefused (bytes text : List ℕ) : Type 0 where
@@ -93,15 +99,15 @@ abbrev pub verdict_of : Outcome → Verdict
 verdict_of outcome.Done = verdict.Done
 verdict_of _ = verdict.EndedWithFaults
 
--- the output of scripts that were run
-abbrev pub IsRunBy : Verdict → List Items → Table → List ℕ → Type 0
-IsRunBy verdict.Done scripts texts text = IsRunOf true scripts texts text
-IsRunBy verdict.EndedWithFaults scripts texts text = IsRunOf false scripts texts text
-IsRunBy _ scripts texts text = ⊥
+-- the output of a script that was run
+abbrev pub IsRunBy : Verdict → Items → Table → List ℕ → Type 0
+IsRunBy verdict.Done script texts text = IsRunOf true script texts text
+IsRunBy verdict.EndedWithFaults script texts text = IsRunOf false script texts text
+IsRunBy _ script texts text = ⊥
 
 -- the answer to an accepted set that was read from so many bytes
 abbrev pub IsDueForSet : ℕ → List Items → Table → Verdict → List ℕ → Type 0
-IsDueForSet bytes scripts texts verdict.Done text = IsRunOf true scripts texts text
-IsDueForSet bytes scripts texts verdict.EndedWithFaults text = IsRunOf false scripts texts text
+IsDueForSet bytes scripts texts verdict.Done text = IsRunOfSet true bytes scripts texts text
+IsDueForSet bytes scripts texts verdict.EndedWithFaults text = IsRunOfSet false bytes scripts texts text
 IsDueForSet bytes scripts texts verdict.Refused text = (IsBuilt bytes scripts texts → ⊥) × (text ≡ not_built_line)
 IsDueForSet bytes scripts texts verdict.TooLarge text = ⊥

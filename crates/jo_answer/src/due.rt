@@ -75,7 +75,10 @@ fn answer_to_set(alloc: Global, length: usize, set: &ScriptSet) -> Result<Answer
     ensures { IfOk result (λ answer. IsDueForSet length (trees_of set.now) set.now.1 answer.verdict answer.text.items) }
 {
     match form_in(alloc, length, set)? {
-        Some(form) => output(alloc, &form, set.texts()),
+        Some(form) => {
+            let answer = output(alloc, &form, set.texts())?;
+            Ok(answer)
+        }
         None => line(alloc, Verdict::Refused, NOT_BUILT_LINE),
     }
 }
@@ -95,7 +98,7 @@ fn form_in(alloc: Global, length: usize, set: &ScriptSet) -> Result<Option<Form>
 // The output of a script of the small form.
 fn output(alloc: Global, form: &Form, texts: &Texts) -> Result<Answer, AllocError>
     ensures { IfOk result (λ answer. (script : Items) → form_of texts.now script ≡ Some form.now.steps
-        → IsRunBy answer.verdict (script ∷ []) texts.now answer.text.items) }
+        → IsRunBy answer.verdict script texts.now answer.text.items) }
 {
     let walked = walk(alloc, form, texts)?;
     let mut text = Vec::new(alloc);

@@ -52,6 +52,5 @@ pub(crate) fn refusal_line(alloc: Global, refusal: Refusal) -> Result<Vec<u8>, A
     let code = code(refusal.kind);
     let name = name(refusal.kind);
     let line = format!(in alloc; "refused {code} {name} at {}\n", refusal.place)?;
-    let bytes = line.as_bytes().to_vec(alloc)?;
-    Ok(bytes)
+    Ok(line.into_bytes())
 }
