@@ -1,11 +1,11 @@
 -- Where steps of few names put numbers of scripts and print few values, the lines fit, and they come to their end.
-use Rattle.std.proofs.Common.{◌≡◌, ℕ, suc, zero, ◌+◌, ◌*◌, ◌<◌, ◌≤◌, ℤ, pos, List, [], ◌∷◌, ◌++◌, Bool, true, false, Option, Some, None, refl, sym, ap, ◌∙◌, ◌⊎◌, inl, inr, length, subst, arith, true≢false, length-append}
+use Rattle.std.proofs.Common.{◌≡◌, ℕ, suc, zero, ◌+◌, ◌*◌, ◌≤◌, ℤ, pos, List, [], ◌∷◌, ◌++◌, Bool, true, false, Option, Some, None, refl, sym, ap, ◌∙◌, inl, inr, length, subst, arith, true≢false, length-append}
 use Rattle.std.specs.Prelude.{map, flat_map, nat_le, codes, slice_get, slice_set, option_map, unwrap_or, if◌then◌else◌}
 use Rattle.std.specs.Fmt.{signed_decimal}
 use Rattle.std.proofs.lemmas.Bool.{le-leb}
 use Rattle.std.proofs.lemmas.Fmt.{length-decimal-le}
 use Rattle.jo_value.specs.Texts.{Table}
-use Rattle.jo_value.specs.declared.limits.TheConstants.{MOST_LINE_BYTES, MOST_NUMBER}
+use Rattle.jo_value.specs.declared.limits.TheConstants.{MOST_LINE_BYTES}
 use Rattle.jo_value.specs.declared.value.NameId.{NameId}
 use Rattle.jo_value.specs.declared.value.Key.TheVariants.{Name}
 use Rattle.jo_value.specs.declared.value.Value.{Value}
@@ -55,7 +55,7 @@ short_get texts (p ∷ names) (suc i) all = short_get texts names i all.1
 
 -- ---- lines
 
--- the values behind the first one, each with a space before it
+-- values with a space before each
 values_fit : (texts : Table) (o : Object) (objects pass : List Object) (passes : Heap) (names : List NameId) → AreShort texts o.names →
     length (flat_map (λ u. codes " " ++ u) (map (value_text texts) (values_in (heap_with o objects pass passes) names))) ≤ 18 * length names
 values_fit texts o objects pass passes [] all = omega arith
@@ -67,17 +67,11 @@ values_fit texts o objects pass passes (name ∷ names) all =
     let rest : length others ≤ 18 * length names = values_fit texts o objects pass passes names all in
     omega (arith, short, rest, length-append text others)
 
--- a line with its end
+-- a line with its end, which counts as the space before its first value
 line_fits : (texts : Table) (o : Object) (objects pass : List Object) (passes : Heap) (names : List NameId) → AreShort texts o.names → 1 ≤ length names →
     length (line_of texts (values_in (heap_with o objects pass passes) names)) + 1 ≤ 18 * length names
 line_fits texts o objects pass passes [] all something = absurd (omega (arith, something))
-line_fits texts o objects pass passes (name ∷ names) all something =
-    let heap : Heap = heap_with o objects pass passes in
-    let text = value_text texts (value_in heap name) in
-    let others = flat_map (λ u. codes " " ++ u) (map (value_text texts) (values_in heap names)) in
-    let short : length text ≤ 17 = short_get texts o.names (name_place o name) all in
-    let rest : length others ≤ 18 * length names = values_fit texts o objects pass passes names all in
-    omega (arith, short, rest, length-append text others)
+line_fits texts o objects pass passes (name ∷ names) all something = omega (arith, values_fit texts o objects pass passes (name ∷ names) all)
 
 -- ---- steps
 
@@ -118,8 +112,7 @@ steps_fit texts (step.Print names ∷ steps) lines o objects pass passes numbers
     let longer = lines ++ line ++ 10 ∷ [] in
     let short : length line + 1 ≤ 18 * length names = line_fits texts o objects pass passes names all something.0 in
     let here : length lines + length line + 1 ≤ MOST_LINE_BYTES = omega (arith, short, room) in
-    let left : length longer + 18 * count_of_printed steps ≤ MOST_LINE_BYTES =
-        omega (arith, short, room, length-append (lines ++ line) (10 ∷ []), length-append lines line) in
+    let left : length longer + 18 * count_of_printed steps ≤ MOST_LINE_BYTES = omega (arith, short, room, length-append (lines ++ line) (10 ∷ []), length-append lines line) in
     print_fits texts steps (nat_le (length lines + length line + 1) MOST_LINE_BYTES) heap lines longer (le-leb (length lines + length line + 1) MOST_LINE_BYTES here)
     (steps_fit texts steps longer o objects pass passes numbers something.1 all left) (after_line heap lines line) refl
 
