@@ -143,18 +143,18 @@ abbrev EndsWell : Stage → Type 0
 EndsWell s = (s.outcome ≡ Some outcome.Done) ⊎ (s.outcome ≡ Some outcome.OutputFull)
 
 -- the heap with this shared object
-abbrev heap_with : Object → List Object → List Object → Heap → Heap
+abbrev pub heap_with : Object → List Object → List Object → Heap → Heap
 heap_with o objects pass passes = (o ∷ objects) ∷ pass ∷ passes
 
 -- what a put of the shared object makes
-abbrev made : Bool → Bool → Object → List Object → List Object → Heap → NameId → Value → Heap × Reply
+abbrev pub made : Bool → Bool → Object → List Object → List Object → Heap → NameId → Value → Heap × Reply
 made there full o objects pass passes name v =
     if there then (heap_with (with_value o (Name name) v) objects pass passes, reply.Done)
     else (if full then (heap_with o objects pass passes, reply.TooManyNames)
     else (heap_with (with_property o (Name name) v) objects pass passes, reply.Done))
 
 -- what is left after a call, and the steps behind it
-abbrev behind_call : Table → List Step → List ℕ → Heap × Reply → Stage
+abbrev pub behind_call : Table → List Step → List ℕ → Heap × Reply → Stage
 behind_call texts steps lines p =
     unless_ended (after_call lines p).outcome (after_call lines p) (after_steps texts steps (after_call lines p).heap (after_call lines p).lines)
 

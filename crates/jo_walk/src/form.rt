@@ -3,6 +3,7 @@ ghost use Rattle.std.specs.Prelude.{◌≡◌, ◌⊎◌, ℕ, true, Some, IfOk}
 ghost use Rattle.jo_tree.specs.Trees.{Items as Script};
 ghost use Rattle.jo_form.specs.Forms.{form_of, has_few_names};
 ghost use Rattle.jo_walk.specs.Alone.{IsRunAlone};
+ghost use Rattle.jo_walk.specs.Small.{AreSmall};
 
 use crate::step::step;
 use jo_form::Form;
@@ -26,6 +27,8 @@ pub fn walk(alloc: Global, form: &Form, texts: &Texts) -> Result<Walked, AllocEr
     // With few names it comes to its end, or to the limit of its lines: no put is refused.
     ensures ended { IfOk result (λ walked. has_few_names form.now.steps ≡ true
         → (walked.outcome ≡ Outcome.Done) ⊎ (walked.outcome ≡ Outcome.OutputFull)) }
+    // Where they print few values, the lines fit.
+    ensures done { IfOk result (λ walked. AreSmall form.now.steps → walked.outcome ≡ Outcome.Done) }
 {
     let mut heap = PlainHeap::new(alloc, 2)?;
     let mut lines = Vec::new(alloc);

@@ -5,6 +5,7 @@ use Rattle.jo_walk.specs.Walks.{after_steps}
 use Rattle.jo_walk.proofs.Steps.{ends_at, ends_done}
 use Rattle.jo_walk.proofs.Ends.{run_alone}
 use Rattle.jo_walk.proofs.FewNames.{few_names_end}
+use Rattle.jo_walk.proofs.FewLines.{few_lines_end}
 use Rattle.jo_walk.proofs.form.walk.Goals as goal
 use Rattle.jo_walk.proofs.form.walk.Goals.{In-Some, After-loop-each}
 
@@ -25,10 +26,12 @@ pub returns-in-Some : goal.returns-in-Some
 returns-in-Some c = record {
   run = λ script turns h. run_alone script c.args.texts.now turns c.args.form.now.steps c.step.new.heap c.step.new.lines.items c.in-Some.outcome h (ended c);
   ended = λ few. few_names_end c.args.texts.now c.args.form.now.steps c.in-Some.outcome few (ap (λ s. s.outcome) (ended c));
+  done = λ small. few_lines_end c.args.texts.now c.args.form.now.steps c.in-Some.outcome small (ap (λ s. s.outcome) (ended c));
 }
 
 pub returns : goal.returns
 returns c = record {
   run = λ script turns h. run_alone script c.args.texts.now turns c.args.form.now.steps c.loop-each.heap c.loop-each.lines.items Done h (done c);
   ended = λ few. few_names_end c.args.texts.now c.args.form.now.steps Done few (ap (λ s. s.outcome) (done c));
+  done = λ small. few_lines_end c.args.texts.now c.args.form.now.steps Done small (ap (λ s. s.outcome) (done c));
 }
