@@ -6,7 +6,7 @@ use std::marker::Model;
 
 /// Scripts, and the table of their texts.
 ///
-/// Contracts see their plain trees and the table. There are 1 to `MOST_SCRIPTS` scripts, and each is sound for the table.
+/// Contracts see the scripts and the table. There are 1 to `MOST_SCRIPTS` scripts, and each is sound for the table.
 #[derive(Drop)]
 pub struct ScriptSet {
     pub(crate) scripts: Vec<Script>,

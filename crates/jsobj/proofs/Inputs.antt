@@ -5,11 +5,11 @@ use Rattle.std.specs.Io.KnownBytes.{Consumes, IsAtEnd}
 use Rattle.jo_value.specs.declared.limits.TheConstants.{MOST_INPUT}
 use Rattle.jo_answer.specs.declared.due.Verdict.{Verdict}
 use Rattle.jo_answer.specs.declared.due.Verdict.TheVariants as verdict
-use Rattle.jo_answer.specs.Answers.{IsDue, IsRefusedInput, IsRunnable}
-use Rattle.jo_answer.proofs.Runnable.{runnable_runs, runnable_small, refused_input}
+use Rattle.jo_answer.specs.Answers.{IsDue, IsRefusedInput}
+use Rattle.jo_answer.proofs.Runnable.{runnable_runs, runnable_small, refused_refuses, refused_input}
 use Rattle.jsobj.specs.declared.run.Status.{Status}
 use Rattle.jsobj.specs.declared.run.Status.TheVariants as status
-use Rattle.jsobj.specs.Run.{status_of, IsRunStatus}
+use Rattle.jsobj.specs.Run.{status_of, IsRunStatus, IsJudged}
 
 -- what holds of the bytes that were read to the end of the input holds of the input
 whole_input : (P : List ℕ → Type 0) (left left' : Option (List ℕ)) (bytes : List ℕ) → Consumes left left' bytes → IsAtEnd left' → P bytes → IfSome left P
@@ -50,31 +50,7 @@ refused_at left left' said bytes text s result read few whole due is (inl answer
     refused_by left left' said bytes text (record { read = read; few = few; whole = whole; due = due }) (sym is ∙ sym answer ∙ refused)
 refused_at left left' said bytes text s result read few whole due is (inr fault) refused = let never : ⊥ = cc in absurd never
 
--- ---- inputs that are run so far
-
-run_status : (said : Verdict) → (said ≡ verdict.Done) ⊎ (said ≡ verdict.EndedWithFaults) → IsRunStatus (status_of said)
-run_status said (inl is) = inl (ap status_of is)
-run_status said (inr is) = inr (ap status_of is)
-
-abbrev Runs : Status → List ℕ → Type 0
-Runs result bytes = IsRunnable bytes → IsRunStatus result ⊎ (result ≡ status.Memory)
-
-too_large : (result : Status) (left left' : Option (List ℕ)) (bytes : List ℕ) → Consumes left left' bytes → MOST_INPUT < length bytes → IfSome left (Runs result)
-too_large result None left' bytes read large = tt
-too_large result (Some input) None bytes read large = absurd read
-too_large result (Some input) (Some rest) bytes read large = λ run.
-    let small : length input ≤ MOST_INPUT = runnable_small input run in
-    absurd (omega (arith, small, large, ap length read, length-append bytes rest))
-
-run_by : (left left' : Option (List ℕ)) (said : Verdict) (bytes text : List ℕ) → IsRead left left' said bytes text → IfSome left (Runs (status_of said))
-run_by left left' verdict.Done bytes text r =
-    whole_input (Runs status.Done) left left' bytes r.read (at_end left left' verdict.Done bytes text r done_small) (λ run. inl (inl refl))
-run_by left left' verdict.EndedWithFaults bytes text r =
-    whole_input (Runs status.EndedWithFaults) left left' bytes r.read (at_end left left' verdict.EndedWithFaults bytes text r faults_small) (λ run. inl (inr refl))
-run_by left left' verdict.Refused bytes text r =
-    whole_input (Runs status.Refused) left left' bytes r.read (at_end left left' verdict.Refused bytes text r refused_small)
-    (λ run. inl (run_status verdict.Refused (runnable_runs verdict.Refused bytes text run r.due)))
-run_by left left' verdict.TooLarge bytes text r = too_large status.TooLarge left left' bytes r.read r.due.0
+-- ---- what is answered to an input
 
 no_write_fault : (said : Verdict) → status_of said ≡ status.WriteFault → ⊥
 no_write_fault verdict.Done is = cc
@@ -82,13 +58,50 @@ no_write_fault verdict.EndedWithFaults is = cc
 no_write_fault verdict.Refused is = cc
 no_write_fault verdict.TooLarge is = cc
 
-pub runs_at : (Fails : Type 0) (left left' : Option (List ℕ)) (said : Verdict) (bytes text : List ℕ) (s result : Status)
+run_status : (said : Verdict) → (said ≡ verdict.Done) ⊎ (said ≡ verdict.EndedWithFaults) → IsRunStatus (status_of said)
+run_status said (inl is) = inl (ap status_of is)
+run_status said (inr is) = inr (ap status_of is)
+
+-- bytes that were read to their end, and are not too many
+judged_whole : (said : Verdict) (bytes text : List ℕ) → length bytes ≤ MOST_INPUT → IsDue said bytes text → IsJudged (status_of said) bytes
+judged_whole said bytes text few due = record {
+  run = λ h. inl (run_status said (runnable_runs said bytes text h due));
+  refused = λ small h. inl (ap status_of (refused_refuses said bytes text h small due));
+  large = λ more. absurd (omega (arith, few, more));
+}
+
+-- the beginning of an input that is too large
+judged_large : (input : List ℕ) → MOST_INPUT < length input → IsJudged status.TooLarge input
+judged_large input large = record {
+  run = λ h. let small : length input ≤ MOST_INPUT = runnable_small input h in absurd (omega (arith, small, large));
+  refused = λ small h. absurd (omega (arith, small, large));
+  large = λ more. inl refl;
+}
+
+too_large : (left left' : Option (List ℕ)) (bytes : List ℕ) → Consumes left left' bytes → MOST_INPUT < length bytes → IfSome left (IsJudged status.TooLarge)
+too_large None left' bytes read large = tt
+too_large (Some input) None bytes read large = absurd read
+too_large (Some input) (Some rest) bytes read large = judged_large input (omega (arith, large, ap length read, length-append bytes rest))
+
+judged_by : (left left' : Option (List ℕ)) (said : Verdict) (bytes text : List ℕ) → IsRead left left' said bytes text → IfSome left (IsJudged (status_of said))
+judged_by left left' verdict.Done bytes text r =
+    whole_input (IsJudged status.Done) left left' bytes r.read (at_end left left' verdict.Done bytes text r done_small)
+    (judged_whole verdict.Done bytes text (r.few done_small) r.due)
+judged_by left left' verdict.EndedWithFaults bytes text r =
+    whole_input (IsJudged status.EndedWithFaults) left left' bytes r.read (at_end left left' verdict.EndedWithFaults bytes text r faults_small)
+    (judged_whole verdict.EndedWithFaults bytes text (r.few faults_small) r.due)
+judged_by left left' verdict.Refused bytes text r =
+    whole_input (IsJudged status.Refused) left left' bytes r.read (at_end left left' verdict.Refused bytes text r refused_small)
+    (judged_whole verdict.Refused bytes text (r.few refused_small) r.due)
+judged_by left left' verdict.TooLarge bytes text r = too_large left left' bytes r.read r.due.0
+
+pub judged_at : (Fails : Type 0) (left left' : Option (List ℕ)) (said : Verdict) (bytes text : List ℕ) (s result : Status)
     → Consumes left left' bytes → ((said ≡ verdict.TooLarge → ⊥) → length bytes ≤ MOST_INPUT) → (length bytes < MOST_INPUT + 1 → IsAtEnd left') → IsDue said bytes text
     → s ≡ status_of said → (result ≡ s) ⊎ (result ≡ status.WriteFault)
     → (result ≡ status.WriteFault → (s ≡ status.WriteFault → ⊥) → Fails) → (Fails → ⊥)
-    → IfSome left (λ bytes. IsRunnable bytes → IsRunStatus result ⊎ (result ≡ status.Memory))
-runs_at Fails left left' said bytes text s result read few whole due is (inl answer) cause fine =
-    let P : Status → Type 0 = λ x. IfSome left (Runs x) in
-    subst P (sym (answer ∙ is)) (run_by left left' said bytes text (record { read = read; few = few; whole = whole; due = due }))
-runs_at Fails left left' said bytes text s result read few whole due is (inr fault) cause fine =
+    → IfSome left (IsJudged result)
+judged_at Fails left left' said bytes text s result read few whole due is (inl answer) cause fine =
+    let P : Status → Type 0 = λ x. IfSome left (IsJudged x) in
+    subst P (sym (answer ∙ is)) (judged_by left left' said bytes text (record { read = read; few = few; whole = whole; due = due }))
+judged_at Fails left left' said bytes text s result read few whole due is (inr fault) cause fine =
     absurd (fine (cause fault (λ same. no_write_fault said (sym is ∙ same))))

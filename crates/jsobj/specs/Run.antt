@@ -6,7 +6,7 @@ use Rattle.std.specs.Io.KnownBytes.{Consumes, IsAtEnd, Appends}
 use Rattle.jo_text.specs.Bytes.{AppendsPrefix}
 use Rattle.jo_answer.specs.declared.due.Verdict.{Verdict}
 use Rattle.jo_answer.specs.declared.due.Verdict.TheVariants as verdict
-use Rattle.jo_answer.specs.Answers.{IsDue}
+use Rattle.jo_answer.specs.Answers.{IsDue, IsRunnable, IsRefusedInput}
 use Rattle.jsobj.specs.declared.run.Status.{Status}
 use Rattle.jsobj.specs.declared.run.Status.TheVariants as status
 
@@ -41,6 +41,7 @@ pub record IsAnswer (said : Verdict) (left left' : Option (List ℕ)) (text : Li
   pub bytes : List ℕ
   pub read : Consumes left left' bytes
   pub whole : (said ≡ verdict.TooLarge → ⊥) → IsAtEnd left'
+  pub few : (said ≡ verdict.TooLarge → ⊥) → length bytes ≤ MOST_INPUT
   pub due : IsDue said bytes text
 
 -- other words were given, and the text is the usage line
@@ -64,3 +65,13 @@ WritesPrefix P held held' = (text : List ℕ) × P text × AppendsPrefix held he
 -- the scripts were run
 abbrev pub IsRunStatus : Status → Type 0
 IsRunStatus s = (s ≡ status.Done) ⊎ (s ≡ status.EndedWithFaults)
+
+abbrev pub IsOrMemory : Status → Status → Type 0
+IsOrMemory s result = (result ≡ s) ⊎ (result ≡ status.Memory)
+
+-- What is answered to an input, where nothing fails: want of memory aside, it is run where it is a set that is built, refused where it is
+-- refused or not built, and too large where it has too many bytes.
+pub record IsJudged (result : Status) (bytes : List ℕ) : Type 0 where
+  pub run : IsRunnable bytes → IsRunStatus result ⊎ (result ≡ status.Memory)
+  pub refused : length bytes ≤ MOST_INPUT → IsRefusedInput bytes → IsOrMemory status.Refused result
+  pub large : MOST_INPUT < length bytes → IsOrMemory status.TooLarge result

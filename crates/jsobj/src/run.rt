@@ -5,8 +5,8 @@ ghost use Rattle.jo_value.specs.declared.limits.TheConstants.{MOST_INPUT};
 ghost use Rattle.jo_io.specs.Causes.{Rose};
 ghost use Rattle.jo_text.specs.Bytes.{ConsumesAtMost, AppendsPrefix};
 ghost use Rattle.jo_answer.specs.declared.due.Verdict.TheVariants as verdict;
-ghost use Rattle.jo_answer.specs.Answers.{IsRefusedInput, IsRunnable};
-ghost use Rattle.jsobj.specs.Run.{is_run, status_of, IsAnswer, IsDueText, IsRunStatus, IsUsage, Writes, WritesPrefix};
+ghost use Rattle.jo_answer.specs.Answers.{IsRefusedInput};
+ghost use Rattle.jsobj.specs.Run.{is_run, status_of, IsAnswer, IsJudged, IsDueText, IsRunStatus, IsUsage, Writes, WritesPrefix};
 
 use jo_answer::{Verdict, answer_to};
 use jo_io::{Sink, Source};
@@ -110,10 +110,10 @@ pub fn run<R: Threads + Wait + Sync, S: Source, K: Sink>(
     ensures complete { is_run words.now ≡ true → (Rose (S.faults source.old) (S.faults source.new) → ⊥)
         → (Rose (K.faults sink.old) (K.faults sink.new) → ⊥)
         → IsRunStatus result ⊎ ((result ≡ Status.Refused) ⊎ ((result ≡ Status.TooLarge) ⊎ (result ≡ Status.Memory))) }
-    // And an input that is run so far is run, unless memory fails.
-    ensures runnable { is_run words.now ≡ true → (Rose (S.faults source.old) (S.faults source.new) → ⊥)
+    // Which of them it is the input decides, memory aside.
+    ensures judged { is_run words.now ≡ true → (Rose (S.faults source.old) (S.faults source.new) → ⊥)
         → (Rose (K.faults sink.old) (K.faults sink.new) → ⊥)
-        → IfSome (S.left source.old) (λ bytes. IsRunnable bytes → IsRunStatus result ⊎ (result ≡ Status.Memory)) }
+        → IfSome (S.left source.old) (IsJudged result) }
 {
     if !is_run(words) {
         return finish(sink, USAGE_LINE, Status::Usage);

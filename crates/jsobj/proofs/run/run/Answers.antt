@@ -1,4 +1,4 @@
-use Rattle.jsobj.proofs.Inputs.{refused_at, runs_at}
+use Rattle.jsobj.proofs.Inputs.{refused_at, judged_at}
 use Rattle.jsobj.proofs.run.run.Goals as goal
 
 pub returns-in-Ok-answer_to-clause-refused_input : goal.returns-in-Ok-answer_to-clause-refused_input
@@ -8,9 +8,9 @@ returns-in-Ok-answer_to-clause-refused_input g c =
     (rw c.deref.ensures.value c.in-Ok.ensures.read) answer.ensures.whole (rw c.deref.ensures.value c.in-Ok.ensures.whole) answer.ensures.due
     c.status_of.ensures c.finish-in-Ok-answer_to.ensures.answer
 
-pub returns-in-Ok-answer_to-clause-runnable : goal.returns-in-Ok-answer_to-clause-runnable
-returns-in-Ok-answer_to-clause-runnable g c = λ run_words read_fine write_fine.
+pub returns-in-Ok-answer_to-clause-judged : goal.returns-in-Ok-answer_to-clause-judged
+returns-in-Ok-answer_to-clause-judged g c = λ run_words read_fine write_fine.
     let answer = c.in-Ok-answer_to in
-    runs_at _ (g.S.Source.left c.args.source.now) (g.S.Source.left c.read_all.new.source) answer.answer.verdict c.deref.result.now answer.answer.text.items c.status_of.result _
+    judged_at _ (g.S.Source.left c.args.source.now) (g.S.Source.left c.read_all.new.source) answer.answer.verdict c.deref.result.now answer.answer.text.items c.status_of.result _
     (rw c.deref.ensures.value c.in-Ok.ensures.read) answer.ensures.whole (rw c.deref.ensures.value c.in-Ok.ensures.whole) answer.ensures.due
     c.status_of.ensures c.finish-in-Ok-answer_to.ensures.answer c.finish-in-Ok-answer_to.ensures.cause write_fine
