@@ -1,4 +1,5 @@
 pub mod Outputs
 pub mod OneScript
 pub mod Runnable
+pub mod SmallForms
 pub mod Worked
