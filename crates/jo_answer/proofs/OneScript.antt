@@ -8,9 +8,10 @@ use Rattle.jo_form.specs.declared.form.TheConstants.{MOST_FORM_BYTES}
 use Rattle.jo_form.specs.declared.form.Form.{Form}
 use Rattle.jo_form.specs.Forms.{form_of}
 use Rattle.jo_form.specs.declared.form.Step.{Step}
-use Rattle.jo_answer.specs.declared.due.Verdict.{Verdict}
-use Rattle.jo_answer.specs.declared.due.Verdict.TheVariants as verdict
-use Rattle.jo_answer.specs.Answers.{IsForm, IsRunBy, IsDueForSet}
+use Rattle.jo_set.specs.Sets.{IsAcceptedSet}
+use Rattle.jo_walk.specs.Small.{AreSmall}
+use Rattle.jo_answer.specs.Answers.{IsForm, IsOutputOf, IsRun}
+use Rattle.jo_answer.proofs.SmallForms.{forms_are_small}
 
 -- the only script of a list
 only : (scripts : List Items) (script : Items) → length scripts ≡ 1 → slice_get scripts 0 ≡ Some script → scripts ≡ script ∷ []
@@ -25,11 +26,11 @@ a_form bytes scripts texts script None long small first same = tt
 a_form bytes scripts texts script (Some form) long small first same =
     record { script = script; alone = only scripts script long first; small = small; form = sym same }
 
--- the answer to a set of this form is the output of its script
-pub due_for_form : (said : Verdict) (bytes : ℕ) (scripts : List Items) (texts : Table) (steps : List Step) (text : List ℕ)
-    → IsForm bytes scripts texts steps → ((script : Items) → form_of texts script ≡ Some steps → IsRunBy said script texts text)
-    → IsDueForSet bytes scripts texts said text
-due_for_form verdict.Done bytes scripts texts steps text form run = record { steps = steps; form = form; run = run form.script form.form }
-due_for_form verdict.EndedWithFaults bytes scripts texts steps text form run = record { steps = steps; form = form; run = run form.script form.form }
-due_for_form verdict.Refused bytes scripts texts steps text form run = absurd (run form.script form.form)
-due_for_form verdict.TooLarge bytes scripts texts steps text form run = run form.script form.form
+-- an accepted set of this form is run by the output of its script
+pub run_of_form : (bytes : List ℕ) (scripts : List Items) (texts : Table) (steps : List Step) (text : List ℕ)
+    → IsAcceptedSet bytes scripts texts → IsForm (length bytes) scripts texts steps
+    → (AreSmall steps → (script : Items) → form_of texts script ≡ Some steps → IsOutputOf script texts text) → IsRun bytes text
+run_of_form bytes scripts texts steps text set form output = record {
+  scripts = scripts; texts = texts; steps = steps; set = set; form = form;
+  output_is = output (forms_are_small bytes scripts texts form.script steps form.small set form.alone form.form) form.script form.form;
+}

@@ -1,10 +1,10 @@
 -- The output text of a script that ran alone.
-use Rattle.std.proofs.Common.{◌≡◌, ℕ, List, [], ◌∷◌, ◌++◌, refl, sym, ap, ◌∙◌}
+use Rattle.std.proofs.Common.{◌≡◌, ℕ, List, [], ◌∷◌, ◌++◌, refl, sym, ap, subst, ◌∙◌}
 use Rattle.std.proofs.lemmas.List.{append-nil}
 use Rattle.jo_value.specs.Texts.{Table}
 use Rattle.jo_tree.specs.Trees.{Items}
 use Rattle.jo_model.specs.declared.call.Outcome.{Outcome}
-use Rattle.jo_model.specs.declared.call.Outcome.TheVariants as outcome
+use Rattle.jo_model.specs.declared.call.Outcome.TheVariants.{Done}
 use Rattle.jo_model.specs.Heaps.{Heap}
 use Rattle.jo_model.specs.History.{History, heap_after}
 use Rattle.jo_model.specs.Rendered.{outcome_text, run_text, heap_text}
@@ -13,7 +13,7 @@ use Rattle.jo_meaning.specs.Histories.{IsHistoryOf, run_in, played_alone}
 use Rattle.jo_meaning.specs.Output.{stand_text}
 use Rattle.jo_walk.specs.Alone.{IsRunAlone}
 use Rattle.jo_answer.specs.declared.due.TheConstants.{DEFAULT_TURNS}
-use Rattle.jo_answer.specs.Answers.{IsOutputOf, IsRunBy, verdict_of}
+use Rattle.jo_answer.specs.Answers.{IsOutputOf}
 
 -- where the one script of a history stands
 stand_alone : (script : Items) (texts : Table) (turns : ℕ) (w : History) (o : Outcome) → IsHistoryOf (script ∷ []) texts turns (o ∷ []) w
@@ -24,15 +24,16 @@ stand_alone script texts turns w o of_script =
     run.2.ended ∙ ap Ended (sym same)
 
 -- the text of its lines and its outcome, and then that of the objects
-output_alone : (script : Items) (texts : Table) (heap : Heap) (lines : List ℕ) (o : Outcome) (start first text : List ℕ)
-    → IsRunAlone script texts DEFAULT_TURNS heap lines o
-    → start ≡ [] → first ≡ start ++ run_text 1 lines (outcome_text o) → text ≡ first ++ heap_text texts heap → IsOutputOf script texts o text
-output_alone script texts heap lines o start first text run empty ran all =
+pub output_alone : (script : Items) (texts : Table) (heap : Heap) (lines : List ℕ) (o : Outcome) (start first text : List ℕ)
+    → IsRunAlone script texts DEFAULT_TURNS heap lines o → o ≡ Done
+    → start ≡ [] → first ≡ start ++ run_text 1 lines (outcome_text o) → text ≡ first ++ heap_text texts heap → IsOutputOf script texts text
+output_alone script texts heap lines o start first text run is empty ran all =
     let w = (played_alone script texts DEFAULT_TURNS).history in
     let made = run_in w 1 script texts DEFAULT_TURNS in
     let objects = heap_text texts (heap_after 2 w) in
+    let P : Outcome → Type 0 = λ x. IsHistoryOf (script ∷ []) texts DEFAULT_TURNS (x ∷ []) w in
     record {
-      of_script = run.of_script;
+      of_script = subst P is run.of_script;
       alone = run.alone;
       text_is =
           all
@@ -42,21 +43,3 @@ output_alone script texts heap lines o start first text run empty ran all =
           ∙ ap (λ s. run_text 1 made.lines (stand_text s) ++ objects) (sym (stand_alone script texts DEFAULT_TURNS w o run.of_script))
           ∙ ap (λ t. t ++ objects) (sym (append-nil (run_text 1 made.lines (stand_text made.stand))));
     }
-
-run_by : (script : Items) (texts : Table) (o : Outcome) (text : List ℕ) → IsOutputOf script texts o text → IsRunBy (verdict_of o) script texts text
-run_by script texts outcome.Done text h = record { outcome = outcome.Done; output_is = h; ends = refl }
-run_by script texts outcome.TypeFault text h = record { outcome = outcome.TypeFault; output_is = h; ends = refl }
-run_by script texts outcome.NotSafe text h = record { outcome = outcome.NotSafe; output_is = h; ends = refl }
-run_by script texts outcome.KeyOutside text h = record { outcome = outcome.KeyOutside; output_is = h; ends = refl }
-run_by script texts outcome.TurnsSpent text h = record { outcome = outcome.TurnsSpent; output_is = h; ends = refl }
-run_by script texts outcome.OutputFull text h = record { outcome = outcome.OutputFull; output_is = h; ends = refl }
-run_by script texts outcome.TooManyNames text h = record { outcome = outcome.TooManyNames; output_is = h; ends = refl }
-run_by script texts outcome.ObjectsSpent text h = record { outcome = outcome.ObjectsSpent; output_is = h; ends = refl }
-run_by script texts outcome.Spent text h = record { outcome = outcome.Spent; output_is = h; ends = refl }
-
-pub answer_alone : (script : Items) (texts : Table) (heap : Heap) (lines : List ℕ) (o : Outcome) (start first text : List ℕ)
-    → IsRunAlone script texts DEFAULT_TURNS heap lines o
-    → start ≡ [] → first ≡ start ++ run_text 1 lines (outcome_text o) → text ≡ first ++ heap_text texts heap
-    → IsRunBy (verdict_of o) script texts text
-answer_alone script texts heap lines o start first text run empty ran all =
-    run_by script texts o text (output_alone script texts heap lines o start first text run empty ran all)

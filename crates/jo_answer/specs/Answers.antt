@@ -1,11 +1,10 @@
 -- What is due for an input.
-use Rattle.std.specs.Prelude.{◌≡◌, ◌⊎◌, ℕ, ◌≤◌, ◌<◌, Bool, true, false, List, [], ◌∷◌, length, Some}
+use Rattle.std.specs.Prelude.{◌≡◌, ◌⊎◌, ℕ, ◌≤◌, ◌<◌, List, [], ◌∷◌, length, Some}
 use Rattle.jo_value.specs.declared.limits.TheConstants.{MOST_INPUT}
 use Rattle.jo_value.specs.Texts.{Table}
 use Rattle.jo_lex.specs.declared.refusal.Refusal.{Refusal}
 use Rattle.jo_tree.specs.Trees.{Items}
-use Rattle.jo_model.specs.declared.call.Outcome.{Outcome}
-use Rattle.jo_model.specs.declared.call.Outcome.TheVariants as outcome
+use Rattle.jo_model.specs.declared.call.Outcome.TheVariants.{Done}
 use Rattle.jo_model.specs.History.{entries_of}
 use Rattle.jo_meaning.specs.Histories.{IsHistoryOf, played_alone}
 use Rattle.jo_meaning.specs.Output.{output}
@@ -29,35 +28,20 @@ pub record IsForm (bytes : ℕ) (scripts : List Items) (texts : Table) (steps : 
 abbrev pub IsBuilt : ℕ → List Items → Table → Type 0
 IsBuilt bytes scripts texts = (steps : List Step) × IsForm bytes scripts texts steps
 
--- The history that one thread gives for a script, in pass 1 alone, is a legal one in which the script comes to this outcome, and the text
--- is its output.
-pub record IsOutputOf (script : Items) (texts : Table) (outcome : Outcome) (text : List ℕ) : Type 0 where
-  pub of_script : IsHistoryOf (script ∷ []) texts DEFAULT_TURNS (outcome ∷ []) (played_alone script texts DEFAULT_TURNS).history
+-- The history that one thread gives for a script, in pass 1 alone, is a legal one in which the script is done, and the text is its output.
+pub record IsOutputOf (script : Items) (texts : Table) (text : List ℕ) : Type 0 where
+  pub of_script : IsHistoryOf (script ∷ []) texts DEFAULT_TURNS (Done ∷ []) (played_alone script texts DEFAULT_TURNS).history
   pub alone : entries_of 1 (played_alone script texts DEFAULT_TURNS).history ≡ (played_alone script texts DEFAULT_TURNS).history
   pub text_is : text ≡ output texts DEFAULT_TURNS (played_alone script texts DEFAULT_TURNS).history (script ∷ [])
 
-abbrev pub is_done : Outcome → Bool
-is_done outcome.Done = true
-is_done _ = false
-
--- the text is the output of the script, which is done, or is not
-pub record IsRunOf (well : Bool) (script : Items) (texts : Table) (text : List ℕ) : Type 0 where
-  pub outcome : Outcome
-  pub output_is : IsOutputOf script texts outcome text
-  pub ends : is_done outcome ≡ well
-
--- the set that so many bytes are is built, and the text is the output of its script
-pub record IsRunOfSet (well : Bool) (bytes : ℕ) (scripts : List Items) (texts : Table) (text : List ℕ) : Type 0 where
-  pub steps : List Step
-  pub form : IsForm bytes scripts texts steps
-  pub run : IsRunOf well form.script texts text
-
 -- the bytes are an accepted set that is built, and the text is the output of its script
-pub record IsRun (well : Bool) (bytes text : List ℕ) : Type 0 where
+pub record IsRun (bytes text : List ℕ) : Type 0 where
   pub scripts : List Items
   pub texts : Table
+  pub steps : List Step
   pub set : IsAcceptedSet bytes scripts texts
-  pub run : IsRunOfSet well (length bytes) scripts texts text
+  pub form : IsForm (length bytes) scripts texts steps
+  pub output_is : IsOutputOf form.script texts text
 
 -- the bytes are refused, and the text says for what and where
 pub record IsRefused (bytes text : List ℕ) : Type 0 where
@@ -75,8 +59,7 @@ pub record IsNotBuilt (bytes text : List ℕ) : Type 0 where
 
 -- what is said of these bytes, and the text that is due for them
 abbrev pub IsDue : Verdict → List ℕ → List ℕ → Type 0
-IsDue verdict.Done bytes text = IsRun true bytes text
-IsDue verdict.EndedWithFaults bytes text = IsRun false bytes text
+IsDue verdict.Done bytes text = IsRun bytes text
 IsDue verdict.Refused bytes text = IsRefused bytes text ⊎ IsNotBuilt bytes text
 IsDue verdict.TooLarge bytes text = (MOST_INPUT < length bytes) × (text ≡ size_line)
 
@@ -92,22 +75,3 @@ pub record IsRunnable (bytes : List ℕ) : Type 0 where
   pub texts : Table
   pub set : IsAcceptedSet bytes scripts texts
   pub built : IsBuilt (length bytes) scripts texts
-
--- ---- what private functions do by these words
-
-abbrev pub verdict_of : Outcome → Verdict
-verdict_of outcome.Done = verdict.Done
-verdict_of _ = verdict.EndedWithFaults
-
--- the output of a script that was run
-abbrev pub IsRunBy : Verdict → Items → Table → List ℕ → Type 0
-IsRunBy verdict.Done script texts text = IsRunOf true script texts text
-IsRunBy verdict.EndedWithFaults script texts text = IsRunOf false script texts text
-IsRunBy _ script texts text = ⊥
-
--- the answer to an accepted set that was read from so many bytes
-abbrev pub IsDueForSet : ℕ → List Items → Table → Verdict → List ℕ → Type 0
-IsDueForSet bytes scripts texts verdict.Done text = IsRunOfSet true bytes scripts texts text
-IsDueForSet bytes scripts texts verdict.EndedWithFaults text = IsRunOfSet false bytes scripts texts text
-IsDueForSet bytes scripts texts verdict.Refused text = (IsBuilt bytes scripts texts → ⊥) × (text ≡ not_built_line)
-IsDueForSet bytes scripts texts verdict.TooLarge text = ⊥

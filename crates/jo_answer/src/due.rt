@@ -1,14 +1,15 @@
 // The answer to an input.
-ghost use Rattle.std.specs.Prelude.{◌≡◌, ◌≤◌, [], ◌∷◌, length, IfOk, IfSome, IfNone, Some};
+ghost use Rattle.std.specs.Prelude.{◌≡◌, ◌≤◌, length, IfOk, IfSome, IfNone, Some};
 ghost use Rattle.jo_value.specs.declared.limits.TheConstants.{MOST_INPUT};
 ghost use Rattle.jo_tree.specs.Trees.{Items};
 ghost use Rattle.jo_form.specs.Forms.{form_of};
 ghost use Rattle.jo_parse.specs.Parsed.{trees_of};
-ghost use Rattle.jo_answer.specs.Answers.{IsBuilt, IsDue, IsDueForSet, IsForm, IsRunBy, verdict_of};
+ghost use Rattle.jo_set.specs.Sets.{IsAcceptedSet};
+ghost use Rattle.jo_walk.specs.Small.{AreSmall};
+ghost use Rattle.jo_answer.specs.Answers.{IsBuilt, IsDue, IsForm, IsOutputOf};
 
 use crate::lines::{NOT_BUILT_LINE, SIZE_LINE, refusal_line};
 use jo_form::{Form, MOST_FORM_BYTES, form_of};
-use jo_model::Outcome;
 use jo_parse::{ParseFault, ScriptSet, parse_set};
 use jo_text::{add_heap, add_run};
 use jo_value::{MOST_INPUT, Texts};
@@ -21,10 +22,8 @@ pub const DEFAULT_TURNS: u32 = 1_000_000;
 /// What is said of an input.
 #[derive(Clone, Copy, Debug, PartialEq, Eq)]
 pub enum Verdict {
-    /// Its scripts were run, and each is done.
+    /// Its script was run, and is done.
     Done,
-    /// Its scripts were run, and some is not done.
-    EndedWithFaults,
     /// It is no accepted set, or uses what is not built yet.
     Refused,
     /// It has too many bytes.
@@ -48,7 +47,7 @@ pub fn answer_to(alloc: Global, bytes: &[u8]) -> Result<Answer, AllocError>
     }
     match parse_set(alloc, bytes) {
         Ok(set) => {
-            let answer = answer_to_set(alloc, bytes.len(), &set)?;
+            let answer = answer_to_set(alloc, bytes, &set)?;
             Ok(answer)
         }
         Err(ParseFault::Refused(refusal)) => Ok(Answer {
@@ -70,14 +69,18 @@ fn line(alloc: Global, verdict: Verdict, line: &[u8]) -> Result<Answer, AllocErr
     })
 }
 
-// The answer to an accepted set that was read from so many bytes.
-fn answer_to_set(alloc: Global, length: usize, set: &ScriptSet) -> Result<Answer, AllocError>
-    ensures { IfOk result (λ answer. IsDueForSet length (trees_of set.now) set.now.1 answer.verdict answer.text.items) }
+// The answer to an accepted set.
+fn answer_to_set(alloc: Global, bytes: &[u8], set: &ScriptSet) -> Result<Answer, AllocError>
+    requires { IsAcceptedSet bytes.now (trees_of set.now) set.now.1 }
+    ensures { IfOk result (λ answer. IsDue answer.verdict bytes.now answer.text.items) }
 {
-    match form_in(alloc, length, set)? {
+    match form_in(alloc, bytes.len(), set)? {
         Some(form) => {
-            let answer = output(alloc, &form, set.texts())?;
-            Ok(answer)
+            let text = output(alloc, &form, set.texts())?;
+            Ok(Answer {
+                verdict: Verdict::Done,
+                text,
+            })
         }
         None => line(alloc, Verdict::Refused, NOT_BUILT_LINE),
     }
@@ -96,25 +99,13 @@ fn form_in(alloc: Global, length: usize, set: &ScriptSet) -> Result<Option<Form>
 }
 
 // The output of a script of the small form.
-fn output(alloc: Global, form: &Form, texts: &Texts) -> Result<Answer, AllocError>
-    ensures { IfOk result (λ answer. (script : Items) → form_of texts.now script ≡ Some form.now.steps
-        → IsRunBy answer.verdict script texts.now answer.text.items) }
+fn output(alloc: Global, form: &Form, texts: &Texts) -> Result<Vec<u8>, AllocError>
+    ensures { IfOk result (λ text. AreSmall form.now.steps
+        → (script : Items) → form_of texts.now script ≡ Some form.now.steps → IsOutputOf script texts.now text.items) }
 {
     let walked = walk(alloc, form, texts)?;
     let mut text = Vec::new(alloc);
     add_run(alloc, &mut text, 1, walked.lines.as_slice(), walked.outcome)?;
     add_heap(alloc, &mut text, texts, &walked.heap)?;
-    Ok(Answer {
-        verdict: verdict_of(walked.outcome),
-        text,
-    })
-}
-
-fn verdict_of(outcome: Outcome) -> Verdict
-    ensures { result ≡ verdict_of outcome }
-{
-    match outcome {
-        Outcome::Done => Verdict::Done,
-        _ => Verdict::EndedWithFaults,
-    }
+    Ok(text)
 }

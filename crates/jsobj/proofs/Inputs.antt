@@ -9,7 +9,7 @@ use Rattle.jo_answer.specs.Answers.{IsDue, IsRefusedInput}
 use Rattle.jo_answer.proofs.Runnable.{runnable_runs, runnable_small, refused_refuses, refused_input}
 use Rattle.jsobj.specs.declared.run.Status.{Status}
 use Rattle.jsobj.specs.declared.run.Status.TheVariants as status
-use Rattle.jsobj.specs.Run.{status_of, IsRunStatus, IsJudged}
+use Rattle.jsobj.specs.Run.{status_of, IsJudged}
 
 -- what holds of the bytes that were read to the end of the input holds of the input
 whole_input : (P : List ℕ → Type 0) (left left' : Option (List ℕ)) (bytes : List ℕ) → Consumes left left' bytes → IsAtEnd left' → P bytes → IfSome left P
@@ -19,9 +19,6 @@ whole_input P (Some input) (Some rest) bytes read end holds = subst P (sym (read
 
 done_small : verdict.Done ≡ verdict.TooLarge → ⊥
 done_small e = cc
-
-faults_small : verdict.EndedWithFaults ≡ verdict.TooLarge → ⊥
-faults_small e = cc
 
 refused_small : verdict.Refused ≡ verdict.TooLarge → ⊥
 refused_small e = cc
@@ -40,7 +37,6 @@ refused_by : (left left' : Option (List ℕ)) (said : Verdict) (bytes text : Lis
 refused_by left left' verdict.Refused bytes text r is =
     whole_input IsRefusedInput left left' bytes r.read (at_end left left' verdict.Refused bytes text r refused_small) (refused_input bytes text r.due)
 refused_by left left' verdict.Done bytes text r is = let never : ⊥ = cc in absurd never
-refused_by left left' verdict.EndedWithFaults bytes text r is = let never : ⊥ = cc in absurd never
 refused_by left left' verdict.TooLarge bytes text r is = let never : ⊥ = cc in absurd never
 
 pub refused_at : (left left' : Option (List ℕ)) (said : Verdict) (bytes text : List ℕ) (s result : Status)
@@ -54,18 +50,13 @@ refused_at left left' said bytes text s result read few whole due is (inr fault)
 
 no_write_fault : (said : Verdict) → status_of said ≡ status.WriteFault → ⊥
 no_write_fault verdict.Done is = cc
-no_write_fault verdict.EndedWithFaults is = cc
 no_write_fault verdict.Refused is = cc
 no_write_fault verdict.TooLarge is = cc
-
-run_status : (said : Verdict) → (said ≡ verdict.Done) ⊎ (said ≡ verdict.EndedWithFaults) → IsRunStatus (status_of said)
-run_status said (inl is) = inl (ap status_of is)
-run_status said (inr is) = inr (ap status_of is)
 
 -- bytes that were read to their end, and are not too many
 judged_whole : (said : Verdict) (bytes text : List ℕ) → length bytes ≤ MOST_INPUT → IsDue said bytes text → IsJudged (status_of said) bytes
 judged_whole said bytes text few due = record {
-  run = λ h. inl (run_status said (runnable_runs said bytes text h due));
+  run = λ h. inl (ap status_of (runnable_runs said bytes text h due));
   refused = λ small h. inl (ap status_of (refused_refuses said bytes text h small due));
   large = λ more. absurd (omega (arith, few, more));
 }
@@ -87,9 +78,6 @@ judged_by : (left left' : Option (List ℕ)) (said : Verdict) (bytes text : List
 judged_by left left' verdict.Done bytes text r =
     whole_input (IsJudged status.Done) left left' bytes r.read (at_end left left' verdict.Done bytes text r done_small)
     (judged_whole verdict.Done bytes text (r.few done_small) r.due)
-judged_by left left' verdict.EndedWithFaults bytes text r =
-    whole_input (IsJudged status.EndedWithFaults) left left' bytes r.read (at_end left left' verdict.EndedWithFaults bytes text r faults_small)
-    (judged_whole verdict.EndedWithFaults bytes text (r.few faults_small) r.due)
 judged_by left left' verdict.Refused bytes text r =
     whole_input (IsJudged status.Refused) left left' bytes r.read (at_end left left' verdict.Refused bytes text r refused_small)
     (judged_whole verdict.Refused bytes text (r.few refused_small) r.due)

@@ -1,5 +1,5 @@
 -- What the top call says.
-use Rattle.std.specs.Prelude.{◌≡◌, ◌⊎◌, ℕ, Bool, true, false, List, [], ◌∷◌, codes, Option, string_bytes, String}
+use Rattle.std.specs.Prelude.{◌≡◌, ◌⊎◌, ℕ, ◌<◌, ◌≤◌, Bool, true, false, List, [], ◌∷◌, codes, length, Option, string_bytes, String}
 use Rattle.std.specs.Str.{bytes_eq}
 use Rattle.std.specs.declared.alloc.Global.{Global}
 use Rattle.std.specs.Io.KnownBytes.{Consumes, IsAtEnd, Appends}
@@ -18,13 +18,11 @@ status_number status.Refused = 2
 status_number status.TooLarge = 3
 status_number status.ReadFault = 4
 status_number status.WriteFault = 5
-status_number status.EndedWithFaults = 6
 status_number status.Memory = 7
 
 -- the status for what is said of an input
 abbrev pub status_of : Verdict → Status
 status_of verdict.Done = status.Done
-status_of verdict.EndedWithFaults = status.EndedWithFaults
 status_of verdict.Refused = status.Refused
 status_of verdict.TooLarge = status.TooLarge
 
@@ -62,16 +60,12 @@ Writes P held held' = (text : List ℕ) × P text × Appends held held' text
 abbrev pub WritesPrefix : (List ℕ → Type 0) → Option (List ℕ) → Option (List ℕ) → Type 0
 WritesPrefix P held held' = (text : List ℕ) × P text × AppendsPrefix held held' text
 
--- the scripts were run
-abbrev pub IsRunStatus : Status → Type 0
-IsRunStatus s = (s ≡ status.Done) ⊎ (s ≡ status.EndedWithFaults)
-
 abbrev pub IsOrMemory : Status → Status → Type 0
 IsOrMemory s result = (result ≡ s) ⊎ (result ≡ status.Memory)
 
 -- What is answered to an input, where nothing fails: want of memory aside, it is run where it is a set that is built, refused where it is
 -- refused or not built, and too large where it has too many bytes.
 pub record IsJudged (result : Status) (bytes : List ℕ) : Type 0 where
-  pub run : IsRunnable bytes → IsRunStatus result ⊎ (result ≡ status.Memory)
+  pub run : IsRunnable bytes → IsOrMemory status.Done result
   pub refused : length bytes ≤ MOST_INPUT → IsRefusedInput bytes → IsOrMemory status.Refused result
   pub large : MOST_INPUT < length bytes → IsOrMemory status.TooLarge result

@@ -6,7 +6,7 @@ ghost use Rattle.jo_io.specs.Causes.{Rose};
 ghost use Rattle.jo_text.specs.Bytes.{ConsumesAtMost, AppendsPrefix};
 ghost use Rattle.jo_answer.specs.declared.due.Verdict.TheVariants as verdict;
 ghost use Rattle.jo_answer.specs.Answers.{IsRefusedInput};
-ghost use Rattle.jsobj.specs.Run.{is_run, status_of, IsAnswer, IsJudged, IsDueText, IsRunStatus, IsUsage, Writes, WritesPrefix};
+ghost use Rattle.jsobj.specs.Run.{is_run, status_of, IsAnswer, IsJudged, IsDueText, IsUsage, Writes, WritesPrefix};
 
 use jo_answer::{Verdict, answer_to};
 use jo_io::{Sink, Source};
@@ -21,7 +21,7 @@ const USAGE_LINE: &[u8] = b"usage: jsobj run [--stats] [--turns T] | make N | ru
 /// How a run ended.
 #[derive(Clone, Copy, Debug, PartialEq, Eq)]
 pub enum Status {
-    /// All is well: the output text was written, and each script is done.
+    /// All is well: the output text was written.
     Done,
     /// The words are no form: the usage line was written.
     Usage,
@@ -33,8 +33,6 @@ pub enum Status {
     ReadFault,
     /// A write failed: a prefix of the text was written.
     WriteFault,
-    /// The output text was written, and some script is not done.
-    EndedWithFaults,
     /// No memory was left: nothing was written.
     Memory,
 }
@@ -53,7 +51,6 @@ impl Status {
             Status::TooLarge => 3,
             Status::ReadFault => 4,
             Status::WriteFault => 5,
-            Status::EndedWithFaults => 6,
             Status::Memory => 7,
         }
     }
@@ -64,7 +61,6 @@ fn status_of(verdict: Verdict) -> Status
 {
     match verdict {
         Verdict::Done => Status::Done,
-        Verdict::EndedWithFaults => Status::EndedWithFaults,
         Verdict::Refused => Status::Refused,
         Verdict::TooLarge => Status::TooLarge,
     }
@@ -84,8 +80,6 @@ pub fn run<R: Threads + Wait + Sync, S: Source, K: Sink>(
     // The printed reads and the final objects are those of one legal history of the set that was read.
     ensures done { result ≡ Status.Done
         → Writes (IsAnswer verdict.Done (S.left source.old) (S.left source.new)) (K.held sink.old) (K.held sink.new) }
-    ensures ended_with_faults { result ≡ Status.EndedWithFaults
-        → Writes (IsAnswer verdict.EndedWithFaults (S.left source.old) (S.left source.new)) (K.held sink.old) (K.held sink.new) }
     ensures refused { result ≡ Status.Refused
         → Writes (IsAnswer verdict.Refused (S.left source.old) (S.left source.new)) (K.held sink.old) (K.held sink.new) }
     ensures too_large { result ≡ Status.TooLarge
@@ -106,10 +100,10 @@ pub fn run<R: Threads + Wait + Sync, S: Source, K: Sink>(
     ensures unread { is_run words.now ≡ false → source.new ≡ source.old }
     ensures bound { ConsumesAtMost (S.left source.old) (S.left source.new) (MOST_INPUT + 1) }
     ensures later { (S.faults source.old ≤ S.faults source.new) × (K.faults sink.old ≤ K.faults sink.new) }
-    // Where nothing fails, accepted words give one of five answers.
+    // Where nothing fails, accepted words give one of four answers.
     ensures complete { is_run words.now ≡ true → (Rose (S.faults source.old) (S.faults source.new) → ⊥)
         → (Rose (K.faults sink.old) (K.faults sink.new) → ⊥)
-        → IsRunStatus result ⊎ ((result ≡ Status.Refused) ⊎ ((result ≡ Status.TooLarge) ⊎ (result ≡ Status.Memory))) }
+        → (result ≡ Status.Done) ⊎ ((result ≡ Status.Refused) ⊎ ((result ≡ Status.TooLarge) ⊎ (result ≡ Status.Memory))) }
     // Which of them it is the input decides, memory aside.
     ensures judged { is_run words.now ≡ true → (Rose (S.faults source.old) (S.faults source.new) → ⊥)
         → (Rose (K.faults sink.old) (K.faults sink.new) → ⊥)
