@@ -31,6 +31,10 @@ pub run_of_form : (bytes : List ℕ) (scripts : List Items) (texts : Table) (ste
     → IsAcceptedSet bytes scripts texts → IsForm (length bytes) scripts texts steps
     → (AreSmall steps → (script : Items) → form_of texts script ≡ Some steps → IsOutputOf script texts text) → IsRun bytes text
 run_of_form bytes scripts texts steps text set form output = record {
-  scripts = scripts; texts = texts; steps = steps; set = set; form = form;
+  scripts = scripts;
+  texts = texts;
+  steps = steps;
+  set = set;
+  form = form;
   output_is = output (forms_are_small bytes scripts texts form.script steps form.small set form.alone form.form) form.script form.form;
 }

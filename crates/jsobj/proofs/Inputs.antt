@@ -9,7 +9,7 @@ use Rattle.jo_answer.specs.Answers.{IsDue, IsRefusedInput}
 use Rattle.jo_answer.proofs.Runnable.{runnable_runs, runnable_small, refused_refuses, refused_input}
 use Rattle.jsobj.specs.declared.run.Status.{Status}
 use Rattle.jsobj.specs.declared.run.Status.TheVariants as status
-use Rattle.jsobj.specs.Run.{status_of, IsJudged}
+use Rattle.jsobj.specs.Run.{status_of, IsAnswer, IsJudged}
 
 -- what holds of the bytes that were read to the end of the input holds of the input
 whole_input : (P : List ℕ → Type 0) (left left' : Option (List ℕ)) (bytes : List ℕ) → Consumes left left' bytes → IsAtEnd left' → P bytes → IfSome left P
@@ -32,6 +32,18 @@ record IsRead (left left' : Option (List ℕ)) (said : Verdict) (bytes text : Li
 
 at_end : (left left' : Option (List ℕ)) (said : Verdict) (bytes text : List ℕ) → IsRead left left' said bytes text → (said ≡ verdict.TooLarge → ⊥) → IsAtEnd left'
 at_end left left' said bytes text r small = let le : length bytes ≤ MOST_INPUT = r.few small in r.whole (omega (arith, le))
+
+-- the text that was due for it
+pub answered : (left left' : Option (List ℕ)) (said : Verdict) (bytes text : List ℕ)
+    → Consumes left left' bytes → ((said ≡ verdict.TooLarge → ⊥) → length bytes ≤ MOST_INPUT) → (length bytes < MOST_INPUT + 1 → IsAtEnd left') → IsDue said bytes text
+    → IsAnswer said left left' text
+answered left left' said bytes text read few whole due = record {
+  bytes = bytes;
+  read = read;
+  whole = at_end left left' said bytes text (record { read = read; few = few; whole = whole; due = due });
+  few = few;
+  due = due;
+}
 
 refused_by : (left left' : Option (List ℕ)) (said : Verdict) (bytes text : List ℕ) → IsRead left left' said bytes text → status_of said ≡ status.Refused → IfSome left IsRefusedInput
 refused_by left left' verdict.Refused bytes text r is =
