@@ -66,7 +66,8 @@ fn status_of(verdict: Verdict) -> Status
     }
 }
 
-/// All that the program does: reads a set of scripts from the source, runs it, and writes its output text to the sink.
+/// All that the program does: reads a set of scripts from the source, runs it, and writes its output
+/// text to the sink.
 ///
 /// `words` are those after the program's name. The source and the sink may be any; what the clauses
 /// say of bytes they say of those that tell their bytes. The runtime is for the threads of scripts to come.
@@ -79,33 +80,46 @@ pub fn run<R: Threads + Wait + Sync, S: Source, K: Sink>(
 ) -> Status
     // The printed reads and the final objects are those of one legal history of the set that was read.
     ensures done { result ≡ Status.Done
-        → Writes (IsAnswer verdict.Done (S.left source.old) (S.left source.new)) (K.held sink.old) (K.held sink.new) }
+        → Writes (IsAnswer verdict.Done (S.left source.old) (S.left source.new))
+        (K.held sink.old) (K.held sink.new) }
     ensures refused { result ≡ Status.Refused
-        → Writes (IsAnswer verdict.Refused (S.left source.old) (S.left source.new)) (K.held sink.old) (K.held sink.new) }
+        → Writes (IsAnswer verdict.Refused (S.left source.old) (S.left source.new))
+        (K.held sink.old) (K.held sink.new) }
     ensures too_large { result ≡ Status.TooLarge
-        → Writes (IsAnswer verdict.TooLarge (S.left source.old) (S.left source.new)) (K.held sink.old) (K.held sink.new) }
-    ensures usage { result ≡ Status.Usage → Writes (IsUsage words.now) (K.held sink.old) (K.held sink.new) }
-    ensures other_words { is_run words.now ≡ false → (result ≡ Status.Usage) ⊎ (result ≡ Status.WriteFault) }
+        → Writes (IsAnswer verdict.TooLarge (S.left source.old) (S.left source.new))
+        (K.held sink.old) (K.held sink.new) }
+    ensures usage { result ≡ Status.Usage
+        → Writes (IsUsage words.now) (K.held sink.old) (K.held sink.new) }
+    ensures other_words { is_run words.now ≡ false
+        → (result ≡ Status.Usage) ⊎ (result ≡ Status.WriteFault) }
 
-    // An input is refused only where it is, as a whole, no set that is run so far, and too large only where it has too many bytes.
+    // An input is refused only where it is, as a whole, no set that is run so far, and too large
+    // only where it has too many bytes.
     ensures refused_input { result ≡ Status.Refused → IfSome (S.left source.old) IsRefusedInput }
-    ensures large_input { result ≡ Status.TooLarge → IfSome (S.left source.old) (λ bytes. MOST_INPUT < length bytes) }
+    ensures large_input { result ≡ Status.TooLarge
+        → IfSome (S.left source.old) (λ bytes. MOST_INPUT < length bytes) }
 
     ensures read_fault { result ≡ Status.ReadFault → Rose (S.faults source.old) (S.faults source.new) }
     ensures write_fault { result ≡ Status.WriteFault → Rose (K.faults sink.old) (K.faults sink.new) }
     ensures prefix { result ≡ Status.WriteFault
-        → WritesPrefix (IsDueText words.now (S.left source.old) (S.left source.new)) (K.held sink.old) (K.held sink.new) }
-    ensures unwritten { (result ≡ Status.ReadFault) ⊎ (result ≡ Status.Memory) → (is_run words.now ≡ true) × (sink.new ≡ sink.old) }
+        → WritesPrefix (IsDueText words.now (S.left source.old) (S.left source.new))
+        (K.held sink.old) (K.held sink.new) }
+    ensures unwritten { (result ≡ Status.ReadFault) ⊎ (result ≡ Status.Memory)
+        → (is_run words.now ≡ true) × (sink.new ≡ sink.old) }
 
     ensures unread { is_run words.now ≡ false → source.new ≡ source.old }
     ensures bound { ConsumesAtMost (S.left source.old) (S.left source.new) (MOST_INPUT + 1) }
-    ensures later { (S.faults source.old ≤ S.faults source.new) × (K.faults sink.old ≤ K.faults sink.new) }
+    ensures later { (S.faults source.old ≤ S.faults source.new)
+        × (K.faults sink.old ≤ K.faults sink.new) }
     // Where nothing fails, accepted words give one of four answers.
-    ensures complete { is_run words.now ≡ true → (Rose (S.faults source.old) (S.faults source.new) → ⊥)
+    ensures complete { is_run words.now ≡ true
+        → (Rose (S.faults source.old) (S.faults source.new) → ⊥)
         → (Rose (K.faults sink.old) (K.faults sink.new) → ⊥)
-        → (result ≡ Status.Done) ⊎ ((result ≡ Status.Refused) ⊎ ((result ≡ Status.TooLarge) ⊎ (result ≡ Status.Memory))) }
+        → (result ≡ Status.Done)
+        ⊎ ((result ≡ Status.Refused) ⊎ ((result ≡ Status.TooLarge) ⊎ (result ≡ Status.Memory))) }
     // Which of them it is the input decides, memory aside.
-    ensures judged { is_run words.now ≡ true → (Rose (S.faults source.old) (S.faults source.new) → ⊥)
+    ensures judged { is_run words.now ≡ true
+        → (Rose (S.faults source.old) (S.faults source.new) → ⊥)
         → (Rose (K.faults sink.old) (K.faults sink.new) → ⊥)
         → IfSome (S.left source.old) (IsJudged result) }
 {
