@@ -112,7 +112,7 @@ chain-no-step texts (h.Binary (Binary' l q (more_of-Chain f end_of-Chain) n ls))
 pub cond-no-step : (texts : Table) (x : Cond) → step_of texts (run (cond_tree x)) ≡ None
 unfolding expr_tree
 cond-no-step texts (c.Chain v) = chain-no-step texts v
-cond-no-step texts (c.Choice' v q (more_of-Expr a end_of-Expr) r (more_of-Expr b end_of-Expr)) = refl
+cond-no-step texts (c.Choice' o (more_of-Chain v end_of-Chain) q (more_of-Expr a end_of-Expr) r (more_of-Expr b end_of-Expr)) = refl
 
 -- ---- accesses
 

@@ -7,14 +7,15 @@ ghost use Rattle.jo_tree.specs.ScriptViews.{binding_tree, bindings_list, option_
 use crate::scopes::Scopes;
 use jo_lex::{ParseFault, Refusal, RefusalKind};
 use jo_tree::{Binding, Expr, Ident};
+use sqlite_items::Boxed;
 
 impl Scopes {
     /// An expression that may be left out.
-    pub(crate) fn optional(&self, expr: &Option<Expr>) -> Result<(), Refusal>
+    pub(crate) fn optional(&self, expr: &Option<Boxed<Expr>>) -> Result<(), Refusal>
         ensures { result ≡ answer_to (faults_of_uses (all_of self.now) (uses_of_optional (option_tree expr.now))) }
     {
         match expr {
-            Some(expr) => self.expr(expr),
+            Some(expr) => self.expr(expr.get()),
             None => Ok(()),
         }
     }

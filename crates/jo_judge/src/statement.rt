@@ -10,6 +10,7 @@ ghost use Rattle.jo_tree.specs.Views.{expr_tree};
 use crate::scopes::Scopes;
 use jo_lex::{ParseFault, Refusal};
 use jo_tree::{Binding, Expr, For, ForHead, If, Item, Statement, While};
+use sqlite_items::Boxed;
 
 fn fault(answer: Result<(), Refusal>) -> Result<(), ParseFault>
     ensures { result ≡ refused answer }
@@ -39,14 +40,14 @@ impl Scopes {
     }
 
     #[tactic(auto, using(crate::proofs::Judging::judging))]
-    fn step(&self, expr: &Option<Expr>) -> Result<(), ParseFault>
+    fn step(&self, expr: &Option<Boxed<Expr>>) -> Result<(), ParseFault>
         ensures { Judges (faults_of_uses (all_of self.now) (uses_of_optional (option_tree expr.now))) result }
     {
         fault(self.optional(expr))
     }
 
     #[tactic(auto, using(crate::proofs::Turns::uses))]
-    fn both(&self, first: &Option<Expr>, then: &Option<Expr>) -> Result<(), Refusal>
+    fn both(&self, first: &Option<Boxed<Expr>>, then: &Option<Boxed<Expr>>) -> Result<(), Refusal>
         ensures { result ≡ answer_to (faults_of_uses (all_of self.now) (uses_of_optional (option_tree first.now) ++ uses_of_optional (option_tree then.now))) }
     {
         self.optional(first)?;
@@ -54,7 +55,11 @@ impl Scopes {
     }
 
     #[tactic(auto, using(crate::proofs::Judging::judging))]
-    fn steps(&self, first: &Option<Expr>, then: &Option<Expr>) -> Result<(), ParseFault>
+    fn steps(
+        &self,
+        first: &Option<Boxed<Expr>>,
+        then: &Option<Boxed<Expr>>,
+    ) -> Result<(), ParseFault>
         ensures { Judges (faults_of_uses (all_of self.now) (uses_of_optional (option_tree first.now) ++ uses_of_optional (option_tree then.now))) result }
     {
         fault(self.both(first, then))
@@ -113,7 +118,7 @@ impl Scopes {
         ensures judged { Judges (faults_of (all_of self.old) (if_tree (expr_tree branch.now.condition) (statement_tree branch.now.then) (optional_statement branch.now.otherwise))) result }
         ensures same { OnOk result (self.new ≡ self.old) }
     {
-        self.condition(&branch.condition)?;
+        self.condition(branch.condition.get())?;
         self.statement(&branch.then)?;
         match &branch.otherwise {
             Some(otherwise) => self.statement(otherwise),
@@ -126,7 +131,7 @@ impl Scopes {
         ensures judged { Judges (faults_of (all_of self.old) (while (expr_tree repeat.now.condition) (statement_tree repeat.now.body))) result }
         ensures same { OnOk result (self.new ≡ self.old) }
     {
-        self.condition(&repeat.condition)?;
+        self.condition(repeat.condition.get())?;
         self.statement(&repeat.body)
     }
 

@@ -46,7 +46,7 @@ fn used(name: u16, place: u32) -> Expr {
     Expr::Cond(Cond::Chain(Chain::Unary(Unary::Postfix(Postfix::Primary(primary)))))
 }
 
-fn declared(alloc: Global, ident: Ident, value: Option<Expr>) -> Result<Item, AllocError> {
+fn declared(alloc: Global, ident: Ident, value: Option<Boxed<Expr>>) -> Result<Item, AllocError> {
     let mut bindings = Items::new(alloc);
     bindings.push(Binding { ident, value })?;
     Ok(Item::Let(Let { bindings }))
@@ -69,7 +69,10 @@ fn inside(alloc: Global, name: u16, place: u32, declares: bool) -> Result<Item, 
 fn item_of(alloc: Global, part: Part, place: u32) -> Result<Item, AllocError> {
     match part {
         Part::Let(name) => declared(alloc, ident(name, place), None),
-        Part::LetAs(name, value) => declared(alloc, ident(name, place), Some(used(value, place))),
+        Part::LetAs(name, value) => {
+            let expr = Boxed::new(alloc, used(value, place))?;
+            declared(alloc, ident(name, place), Some(expr))
+        }
         Part::Use(name) => performed(alloc, name, place),
         Part::UseInside(name) => inside(alloc, name, place, false),
         Part::UseAbove(name) => inside(alloc, name, place, true),

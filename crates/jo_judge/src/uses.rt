@@ -75,7 +75,7 @@ impl Scopes {
     fn choice(&self, choice: &Choice) -> Result<(), Refusal>
         ensures { result ≡ answer_to (faults_of_uses (all_of self.now) (uses_of (choice_tree choice.now))) }
     {
-        self.chain(&choice.condition)?;
+        self.chain(choice.condition.get())?;
         self.expr(choice.then.get())?;
         self.expr(choice.otherwise.get())
     }

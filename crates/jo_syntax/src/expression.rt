@@ -17,6 +17,7 @@ use jo_grammar::Terminal;
 use jo_lex::{ParseFault, RefusalKind, Token};
 use jo_tree::Expr;
 use jo_value::{MOST_OPEN, Texts};
+use sqlite_items::Boxed;
 use std::alloc::Global;
 
 // What is answered for the terminals of the tokens.
@@ -25,14 +26,14 @@ fn answer(
     tokens: &[Token],
     terminals: &[Terminal],
     ins: bool,
-) -> Result<Expr, ParseFault>
+) -> Result<Boxed<Expr>, ParseFault>
     ensures { Answered expr_tree tokens.now terminals.now (whole MOST_OPEN ins terminals.now) result }
 {
     let mut parser = Parser {
         alloc,
         tokens: Cursor::new(terminals),
     };
-    match parser.expression(MOST_OPEN, ins) {
+    match parser.nested(MOST_OPEN, ins) {
         Ok(expr) => {
             let left = parser.tokens.left();
             if left == 0 {
@@ -51,7 +52,7 @@ pub fn parse_expression(
     tokens: &[Token],
     texts: &Texts,
     ins: bool,
-) -> Result<Expr, ParseFault>
+) -> Result<Boxed<Expr>, ParseFault>
     ensures ok { IfOk result (λ expr.
         IsAccepted (IsExpression ins 0) MOST_OPEN (terminals_of texts.now tokens.now) (expr_tree expr)) }
     ensures refused { IfErr result (IsFault (IsExpression ins 0) tokens.now (terminals_of texts.now tokens.now)) }

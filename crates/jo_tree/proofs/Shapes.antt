@@ -42,8 +42,8 @@ unfolding expr_tree Rattle.jo_tree.specs.declared.expr.Access.TheBlock.hidden-th
 props-row [] = refl
 props-row (p ∷ ps) = ap (λ v. prop p.key (expr_tree p.value) v) (props-row ps)
 
-accesses-row : (xs : List Access) → accesses_row (Rattle.jo_tree.specs.declared.expr.Access.TheBlock.hidden-the_row-Access-1 xs) ≡ accesses_list xs
-unfolding expr_tree Rattle.jo_tree.specs.declared.expr.Access.TheBlock.hidden-the_row-Access-1 Rattle.jo_tree.specs.declared.expr.Access.TheBlock.hidden-the_row-Expr-0 denote.Hole.Carrier.hidden
+accesses-row : (xs : List Access) → accesses_row (Rattle.jo_tree.specs.declared.expr.Access.TheBlock.hidden-the_row-Access-2 xs) ≡ accesses_list xs
+unfolding expr_tree Rattle.jo_tree.specs.declared.expr.Access.TheBlock.hidden-the_row-Access-2 Rattle.jo_tree.specs.declared.expr.Access.TheBlock.hidden-the_row-Expr-0 denote.Hole.Carrier.hidden
 accesses-row [] = refl
 accesses-row (a.Name k ∷ xs) = ap (λ v. field k v) (accesses-row xs)
 accesses-row (a.Key' q (more_of-Expr e end_of-Expr) ∷ xs) = ap (λ v. index (expr_tree e) v) (accesses-row xs)
@@ -75,7 +75,7 @@ unfolding expr_tree
 cond_tree-chain v = refl
 
 pub cond_tree-choice : (v : Choice) → cond_tree (c.Choice v) ≡ choice_tree v
-unfolding expr_tree Rattle.jo_tree.specs.declared.expr.Access.TheBlock.hidden-the_row-Expr-0 denote.Hole.Carrier.hidden
+unfolding expr_tree Rattle.jo_tree.specs.declared.expr.Access.TheBlock.hidden-the_row-Expr-0 Rattle.jo_tree.specs.declared.expr.Access.TheBlock.hidden-the_row-Chain-1 denote.Hole.Carrier.hidden
 cond_tree-choice v = refl
 
 pub chain_tree-unary : (v : Unary) → chain_tree (h.Unary v) ≡ unary_tree v
@@ -83,11 +83,11 @@ unfolding expr_tree
 chain_tree-unary v = refl
 
 pub chain_tree-binary : (k : ℕ) (f : Chain) (ls : List Link) → chain_tree (h.Binary (roll-Binary record { level = k; first = f; links = ls })) ≡ chain k (chain_tree f) (links_list ls)
-unfolding expr_tree Rattle.jo_tree.specs.declared.expr.Access.TheBlock.hidden-the_row-Chain-3 denote.Hole.Carrier.hidden roll-Binary denote.Hole.Carrier.roll
+unfolding expr_tree Rattle.jo_tree.specs.declared.expr.Access.TheBlock.hidden-the_row-Chain-1 denote.Hole.Carrier.hidden roll-Binary denote.Hole.Carrier.roll
 chain_tree-binary k f ls = ap (λ v. chain k (chain_tree f) v) (links-row ls)
 
 pub unary_tree-applied : (o : UnaryOperator) (v : Unary) → unary_tree (u.Applied o v) ≡ unary o (unary_tree v)
-unfolding expr_tree Rattle.jo_tree.specs.declared.expr.Access.TheBlock.hidden-the_row-Unary-2 denote.Hole.Carrier.hidden
+unfolding expr_tree Rattle.jo_tree.specs.declared.expr.Access.TheBlock.hidden-the_row-Unary-3 denote.Hole.Carrier.hidden
 unary_tree-applied o v = refl
 
 pub unary_tree-delete : (v : Member) → unary_tree (u.Delete v) ≡ delete (member_tree v)

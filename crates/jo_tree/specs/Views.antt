@@ -38,7 +38,7 @@ unfoldable mutual
 
   pub cond_tree : Cond → Tree
   cond_tree (c.Chain h) = chain_tree h
-  cond_tree (c.Choice' h p (more_of-Expr a end_of-Expr) q (more_of-Expr b end_of-Expr)) = choose (chain_tree h) (expr_tree a) (expr_tree b)
+  cond_tree (c.Choice' o (more_of-Chain h end_of-Chain) p (more_of-Expr a end_of-Expr) q (more_of-Expr b end_of-Expr)) = choose (chain_tree h) (expr_tree a) (expr_tree b)
 
   pub chain_tree : Chain → Tree
   chain_tree (h.Unary u) = unary_tree u

@@ -40,7 +40,7 @@ pub enum Cond {
 #[cycle(tree)]
 #[derive(Drop)]
 pub struct Choice {
-    pub condition: Chain,
+    pub condition: Boxed<Chain>,
     pub then: Boxed<Expr>,
     pub otherwise: Boxed<Expr>,
 }

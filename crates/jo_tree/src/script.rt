@@ -27,7 +27,7 @@ pub struct Let {
 #[derive(Drop)]
 pub struct Binding {
     pub ident: Ident,
-    pub value: Option<Expr>,
+    pub value: Option<Boxed<Expr>>,
 }
 
 /// A statement. What is large stands in boxes, so that many small statements take little room.
@@ -57,7 +57,7 @@ pub struct Block {
 #[cycle(statement)]
 #[derive(Drop)]
 pub struct If {
-    pub condition: Expr,
+    pub condition: Boxed<Expr>,
     pub then: Statement,
     pub otherwise: Option<Statement>,
 }
@@ -66,7 +66,7 @@ pub struct If {
 #[cycle(statement)]
 #[derive(Drop)]
 pub struct While {
-    pub condition: Expr,
+    pub condition: Boxed<Expr>,
     pub body: Statement,
 }
 
@@ -75,8 +75,8 @@ pub struct While {
 #[derive(Drop)]
 pub struct For {
     pub head: ForHead,
-    pub condition: Option<Expr>,
-    pub step: Option<Expr>,
+    pub condition: Option<Boxed<Expr>>,
+    pub step: Option<Boxed<Expr>>,
     pub body: Statement,
 }
 
@@ -84,5 +84,5 @@ pub struct For {
 #[derive(Drop)]
 pub enum ForHead {
     Let(Let),
-    Expr(Option<Expr>),
+    Expr(Option<Boxed<Expr>>),
 }

@@ -36,7 +36,7 @@ impl<'a> Parser<'a> {
 
     /// An expression in a box.
     #[cycle(parser)]
-    pub(super) fn nested(&mut self, inner: u8, ins: bool) -> Result<Boxed<Expr>, Stop>
+    pub(crate) fn nested(&mut self, inner: u8, ins: bool) -> Result<Boxed<Expr>, Stop>
         ensures { Reads expr_tree (spec.read inner ins 1 self.old.tokens) result self.new.tokens }
     {
         let value = self.expression(inner, ins)?;
@@ -46,7 +46,7 @@ impl<'a> Parser<'a> {
     /// An expression and the punctuator that ends it.
     #[cycle(parser)]
     #[tactic(auto, using(crate::proofs::Rules::reading), unfolding(jo_grammar::specs::Read::ended))]
-    pub(super) fn ended(&mut self, inner: u8, punct: Punct) -> Result<Boxed<Expr>, Stop>
+    pub(crate) fn ended(&mut self, inner: u8, punct: Punct) -> Result<Boxed<Expr>, Stop>
         ensures { Reads expr_tree (spec.ended (spec.read inner) punct self.old.tokens) result self.new.tokens }
     {
         let value = self.nested(inner, true)?;
@@ -79,6 +79,7 @@ impl<'a> Parser<'a> {
         if !self.tokens.sees(Punct::Question) {
             return Ok(Cond::Chain(condition));
         }
+        let condition = Boxed::new(self.alloc, condition)?;
         let inner = self.tokens.open(room)?;
         Ok(Cond::Choice(self.choice(inner, ins, condition)?))
     }
@@ -86,7 +87,7 @@ impl<'a> Parser<'a> {
     /// The rest of a choice behind its question mark.
     #[cycle(parser)]
     #[tactic(auto, using(crate::proofs::Rules::reading), unfolding(jo_grammar::specs::Read::choice))]
-    fn choice(&mut self, inner: u8, ins: bool, condition: Chain) -> Result<Choice, Stop>
+    fn choice(&mut self, inner: u8, ins: bool, condition: Boxed<Chain>) -> Result<Choice, Stop>
         ensures { Reads choice_tree (spec.choice (spec.read inner) ins (chain_tree condition) self.old.tokens) result self.new.tokens }
     {
         let then = self.nested(inner, ins)?;

@@ -30,7 +30,7 @@ impl<'a> Parser<'a> {
         &mut self,
         room: u8,
         loops: bool,
-        condition: Expr,
+        condition: Boxed<Expr>,
         then: Statement,
     ) -> Result<Statement, Stop>
         ensures { Reads statement_tree (spec.else_after (read_statement room) loops (expr_tree condition) (statement_tree then) self.old.tokens) result self.new.tokens }

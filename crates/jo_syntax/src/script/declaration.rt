@@ -9,7 +9,7 @@ use crate::stop::Stop;
 use jo_grammar::Terminal;
 use jo_lex::Punct;
 use jo_tree::{Binding, Expr, Ident, Let};
-use sqlite_items::Items;
+use sqlite_items::{Boxed, Items};
 
 impl<'a> Parser<'a> {
     #[tactic(auto, unfolding(jo_grammar::specs::ReadStatements::ident))]
@@ -24,14 +24,14 @@ impl<'a> Parser<'a> {
     }
 
     #[tactic(auto, using(crate::proofs::ScriptRules::script_reading), unfolding(jo_grammar::specs::ReadStatements::initial_at))]
-    fn initial(&mut self, room: u8, ins: bool) -> Result<Option<Expr>, Stop>
+    fn initial(&mut self, room: u8, ins: bool) -> Result<Option<Boxed<Expr>>, Stop>
         ensures { Reads option_tree (spec.initial_at room ins self.old.tokens) result self.new.tokens }
     {
         if !self.tokens.sees(Punct::Assign) {
             return Ok(None);
         }
         let inner = self.tokens.open(room)?;
-        Ok(Some(self.expression(inner, ins)?))
+        Ok(Some(self.nested(inner, ins)?))
     }
 
     #[tactic(auto, using(crate::proofs::ScriptRules::script_reading), unfolding(jo_grammar::specs::ReadStatements::binding_at))]

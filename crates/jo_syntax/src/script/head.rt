@@ -8,29 +8,33 @@ use crate::parser::Parser;
 use crate::stop::Stop;
 use jo_lex::Punct;
 use jo_tree::{Expr, ForHead, Keyword};
+use sqlite_items::Boxed;
 
 impl<'a> Parser<'a> {
     /// An expression in round brackets.
-    #[tactic(auto, using(crate::proofs::ScriptRules::script_reading), unfolding(jo_grammar::specs::ReadStatements::in_brackets_at, jo_grammar::specs::Read::ended))]
-    pub(crate) fn in_brackets(&mut self, room: u8) -> Result<Expr, Stop>
+    #[tactic(auto, using(crate::proofs::ScriptRules::script_reading), unfolding(jo_grammar::specs::ReadStatements::in_brackets_at))]
+    pub(crate) fn in_brackets(&mut self, room: u8) -> Result<Boxed<Expr>, Stop>
         ensures { Reads expr_tree (spec.in_brackets_at room self.old.tokens) result self.new.tokens }
     {
         let deep = self.tokens.enter(Punct::OpenParen, room)?;
-        let value = self.expression(deep, true)?;
-        self.tokens.expect(Punct::CloseParen)?;
-        Ok(value)
+        self.ended(deep, Punct::CloseParen)
     }
 
     /// An expression or none, and the token that ends it.
     #[tactic(auto, using(crate::proofs::ScriptRules::script_reading), unfolding(jo_grammar::specs::ReadStatements::optional_ended))]
-    pub(crate) fn optional(&mut self, room: u8, ins: bool, end: Punct) -> Result<Option<Expr>, Stop>
+    pub(crate) fn optional(
+        &mut self,
+        room: u8,
+        ins: bool,
+        end: Punct,
+    ) -> Result<Option<Boxed<Expr>>, Stop>
         ensures { Reads option_tree (spec.optional_ended room ins end self.old.tokens) result self.new.tokens }
     {
         if self.tokens.sees(end) {
             self.tokens.advance();
             return Ok(None);
         }
-        let value = self.expression(room, ins)?;
+        let value = self.nested(room, ins)?;
         self.tokens.expect(end)?;
         Ok(Some(value))
     }

@@ -8,7 +8,7 @@ use crate::parser::Parser;
 use crate::stop::Stop;
 use jo_lex::Punct;
 use jo_tree::{Expr, Statement};
-use sqlite_items::{Boxed, Items};
+use sqlite_items::Items;
 
 impl<'a> Parser<'a> {
     /// The rest of the arguments behind one.
@@ -59,7 +59,7 @@ impl<'a> Parser<'a> {
     {
         let object = self.in_brackets(room)?;
         self.tokens.expect(Punct::Semicolon)?;
-        Ok(Statement::PrintNames(Boxed::new(self.alloc, object)?))
+        Ok(Statement::PrintNames(object))
     }
 
     /// An expression as a statement.
@@ -67,9 +67,9 @@ impl<'a> Parser<'a> {
     pub(crate) fn run(&mut self, room: u8) -> Result<Statement, Stop>
         ensures { Reads statement_tree (spec.run_at room self.old.tokens) result self.new.tokens }
     {
-        let value = self.expression(room, true)?;
+        let value = self.nested(room, true)?;
         self.tokens.expect(Punct::Semicolon)?;
-        Ok(Statement::Expr(Boxed::new(self.alloc, value)?))
+        Ok(Statement::Expr(value))
     }
 
     /// A `break` or a `continue`, which stands only in the body of a loop.
