@@ -3,7 +3,5 @@
 
 mod due;
 mod lines;
-#[cfg(test)]
-mod tests;
 
 pub use due::{Answer, DEFAULT_TURNS, Verdict, answer_to};

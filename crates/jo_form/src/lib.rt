@@ -6,8 +6,6 @@ mod form;
 mod operand;
 mod script;
 mod step;
-#[cfg(test)]
-mod tests;
 mod word;
 
 pub use form::{Form, MOST_FORM_BYTES, Step};

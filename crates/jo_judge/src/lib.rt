@@ -6,8 +6,6 @@ mod declaration;
 mod scopes;
 mod script;
 mod statement;
-#[cfg(test)]
-mod tests;
 mod uses;
 
 pub use script::judge;

@@ -10,8 +10,6 @@ mod punct;
 mod reader;
 mod refusal;
 mod reserved;
-#[cfg(test)]
-mod tests;
 mod token;
 
 pub use punct::{PUNCTUATORS, Punct};

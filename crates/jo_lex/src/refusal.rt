@@ -1,5 +1,6 @@
 // Why a text is no accepted set of scripts.
 
+use std::alloc::AllocError;
 use thiserror::Error;
 
 /// What is wrong with a set of scripts.
@@ -43,4 +44,15 @@ pub enum ParseFault {
     /// The set is not accepted.
     #[error("not an accepted set of scripts")]
     Refused(Refusal),
+}
+
+impl From<AllocError> for ParseFault {
+    ghost use Rattle.std.specs.Prelude.{◌≡◌};
+    ghost use Rattle.jo_lex.specs.declared.refusal.ParseFault.TheVariants.{Memory};
+
+    ghost from_gives = { λ _ fault. fault ≡ Memory };
+
+    fn from(_: AllocError) -> ParseFault {
+        ParseFault::Memory
+    }
 }

@@ -3,8 +3,6 @@
 
 mod call;
 mod plain;
-#[cfg(test)]
-mod tests;
 
 pub use call::{Call, NameList, Outcome, Reply, Spent};
 pub use plain::{PlainHeap, PlainObject};

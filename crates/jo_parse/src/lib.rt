@@ -7,8 +7,6 @@ mod named;
 mod reader;
 mod set;
 mod spell;
-#[cfg(test)]
-mod tests;
 
 pub use jo_lex::{ParseFault, Refusal, RefusalKind};
 pub use reader::parse_set;

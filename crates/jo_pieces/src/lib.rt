@@ -2,7 +2,5 @@
 #![tactic(auto)]
 
 mod piece;
-#[cfg(test)]
-mod tests;
 
 pub use piece::{Piece, pieces};

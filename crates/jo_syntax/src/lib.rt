@@ -9,13 +9,9 @@ mod parser;
 mod read_script;
 mod refusal;
 mod script;
-#[cfg(test)]
-mod script_tests;
 mod shape;
 mod stop;
 mod terminals;
-#[cfg(test)]
-mod tests;
 
 pub use expression::parse_expression;
 pub use read_script::parse_script;

@@ -7,8 +7,6 @@ mod output;
 mod properties;
 mod quoted;
 mod reading;
-#[cfg(test)]
-mod tests;
 mod value;
 mod writing;
 

@@ -3,7 +3,5 @@
 
 mod form;
 mod step;
-#[cfg(test)]
-mod tests;
 
 pub use form::{Walked, walk};

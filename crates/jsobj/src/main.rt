@@ -1,12 +1,8 @@
 //! Runs a script over a shared object: from standard input to standard output.
 #![tactic(auto)]
 
-mod run;
-#[cfg(test)]
-mod tests;
-
 use jo_io::{StdSink, StdSource};
-use run::{Status, run};
+use jo_program::{Status, run};
 use std::process::ExitCode;
 use std::{env, io};
 

@@ -1,7 +1,7 @@
 use Rattle.std.proofs.Common.{◌≡◌, true, inr, rules}
-use Rattle.jsobj.specs.Run.{is_run}
-use Rattle.jsobj.proofs.Inputs.{answered, refused_at, judged_at}
-use Rattle.jsobj.proofs.run.run.Goals as goal
+use Rattle.jo_program.specs.Run.{is_run}
+use Rattle.jo_program.proofs.Inputs.{answered, refused_at, judged_at}
+use Rattle.jo_program.proofs.top.run.Goals as goal
 
 pub returns-in-Ok-answer_to-clause-refused_input : goal.returns-in-Ok-answer_to-clause-refused_input
 returns-in-Ok-answer_to-clause-refused_input g c =

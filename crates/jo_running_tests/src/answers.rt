@@ -1,5 +1,5 @@
 // Answers to inputs, with ample memory.
-use crate::{Verdict, answer_to};
+use jo_answer::{Verdict, answer_to};
 use std::alloc::{AllocError, Global};
 use std::test::Fail;
 

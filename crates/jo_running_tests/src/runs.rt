@@ -1,5 +1,5 @@
 // Whole runs over memory, one byte a call.
-use crate::run::{Status, run};
+use jo_program::{Status, run};
 use jo_io::{MemorySink, MemorySource};
 use std::alloc::{AllocError, Global};
 use std::sync::Wait;

@@ -1,7 +1,7 @@
 // Sets of scripts, with ample memory.
 ghost use Rattle.std.specs.Prelude.{◌≤◌, length};
 
-use crate::{ParseFault, Refusal, RefusalKind, parse_set};
+use jo_parse::{ParseFault, Refusal, RefusalKind, parse_set};
 use std::alloc::{AllocError, Global};
 use std::process::Abort;
 use std::test::Fail;

@@ -1,6 +1,6 @@
 // Small scripts, with ample memory.
 
-use crate::judge;
+use jo_judge::judge;
 use jo_lex::{ParseFault, Refusal, RefusalKind};
 use jo_tree::{
     Binding, Block, Chain, Cond, Expr, Ident, Item, Let, Postfix, Primary, Script, Statement, Unary,

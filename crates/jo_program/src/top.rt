@@ -6,8 +6,9 @@ ghost use Rattle.jo_io.specs.Causes.{Rose};
 ghost use Rattle.jo_text.specs.Bytes.{ConsumesAtMost, AppendsPrefix};
 ghost use Rattle.jo_answer.specs.declared.due.Verdict.TheVariants as verdict;
 ghost use Rattle.jo_answer.specs.Answers.{IsRefusedInput};
-ghost use Rattle.jsobj.specs.Run.{is_run, status_of, IsAnswer, IsJudged, IsDueText, IsUsage, Writes, WritesPrefix};
+ghost use Rattle.jo_program.specs.Run.{is_run, status_of, IsAnswer, IsJudged, IsDueText, IsUsage, Writes, WritesPrefix};
 
+use crate::Status;
 use jo_answer::{Verdict, answer_to};
 use jo_io::{Sink, Source};
 use jo_text::{ReadError, read_all, write_all};
@@ -17,44 +18,6 @@ use std::sync::Wait;
 use std::thread::Threads;
 
 const USAGE_LINE: &[u8] = b"usage: jsobj run [--stats] [--turns T] | make N | run-made N\n";
-
-/// How a run ended.
-#[derive(Clone, Copy, Debug, PartialEq, Eq)]
-pub enum Status {
-    /// All is well: the output text was written.
-    Done,
-    /// The words are no form: the usage line was written.
-    Usage,
-    /// The input is no accepted set, or uses what is not built yet: the refusal line was written.
-    Refused,
-    /// The input has too many bytes: the size line was written.
-    TooLarge,
-    /// A read failed: nothing was written.
-    ReadFault,
-    /// A write failed: a prefix of the text was written.
-    WriteFault,
-    /// No memory was left: nothing was written.
-    Memory,
-}
-
-impl Status {
-    ghost use Rattle.jsobj.specs.Run.{status_number};
-
-    /// The exit status of the program.
-    pub fn number(self) -> u8
-        ensures { result ≡ status_number self }
-    {
-        match self {
-            Status::Done => 0,
-            Status::Usage => 1,
-            Status::Refused => 2,
-            Status::TooLarge => 3,
-            Status::ReadFault => 4,
-            Status::WriteFault => 5,
-            Status::Memory => 7,
-        }
-    }
-}
 
 fn status_of(verdict: Verdict) -> Status
     ensures { result ≡ status_of verdict }

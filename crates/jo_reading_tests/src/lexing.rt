@@ -1,7 +1,7 @@
 // Tokens of scripts, with ample memory.
 ghost use Rattle.std.specs.Prelude.{◌+◌, ◌≤◌, length};
 
-use crate::{ParseFault, Punct, Refusal, RefusalKind, TokenKind, tokens};
+use jo_lex::{ParseFault, Punct, Refusal, RefusalKind, TokenKind, tokens};
 use jo_value::{TextId, Texts};
 use std::alloc::{AllocError, Global};
 use std::process::Abort;

@@ -2,7 +2,7 @@
 ghost use Rattle.std.specs.Prelude.{◌≤◌, length};
 ghost use Rattle.jo_value.specs.declared.limits.TheConstants.{MOST_INPUT};
 
-use crate::pieces;
+use jo_pieces::pieces;
 use jo_lex::{ParseFault, Refusal, RefusalKind};
 use std::alloc::{AllocError, Global};
 use std::test::Fail;

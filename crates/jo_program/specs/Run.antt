@@ -8,8 +8,8 @@ use Rattle.jo_text.specs.Bytes.{AppendsPrefix}
 use Rattle.jo_answer.specs.declared.due.Verdict.{Verdict}
 use Rattle.jo_answer.specs.declared.due.Verdict.TheVariants as verdict
 use Rattle.jo_answer.specs.Answers.{IsDue, IsRunnable, IsRefusedInput}
-use Rattle.jsobj.specs.declared.run.Status.{Status}
-use Rattle.jsobj.specs.declared.run.Status.TheVariants as status
+use Rattle.jo_program.specs.declared.status.Status.{Status}
+use Rattle.jo_program.specs.declared.status.Status.TheVariants as status
 
 -- the exit status of the program
 abbrev pub status_number : Status → ℕ

@@ -7,9 +7,9 @@ use Rattle.jo_answer.specs.declared.due.Verdict.{Verdict}
 use Rattle.jo_answer.specs.declared.due.Verdict.TheVariants as verdict
 use Rattle.jo_answer.specs.Answers.{IsDue, IsRefusedInput}
 use Rattle.jo_answer.proofs.Runnable.{runnable_runs, runnable_small, refused_refuses, refused_input}
-use Rattle.jsobj.specs.declared.run.Status.{Status}
-use Rattle.jsobj.specs.declared.run.Status.TheVariants as status
-use Rattle.jsobj.specs.Run.{status_of, IsAnswer, IsJudged}
+use Rattle.jo_program.specs.declared.status.Status.{Status}
+use Rattle.jo_program.specs.declared.status.Status.TheVariants as status
+use Rattle.jo_program.specs.Run.{status_of, IsAnswer, IsJudged}
 
 -- what holds of the bytes that were read to the end of the input holds of the input
 whole_input : (P : List ℕ → Type 0) (left left' : Option (List ℕ)) (bytes : List ℕ) → Consumes left left' bytes → IsAtEnd left' → P bytes → IfSome left P

@@ -1,7 +1,7 @@
 // What no clause says: that memory is found, and which calls of std become faults.
 ghost use Rattle.std.specs.Prelude.{◌≤◌, IfOk};
 
-use crate::{Failed, MemorySink, MemorySource, Sink, Source, StdSink, StdSource};
+use jo_io::{Failed, MemorySink, MemorySource, Sink, Source, StdSink, StdSource};
 use std::io;
 use std::process::Abort;
 use std::test::Fail;

@@ -1,7 +1,7 @@
 // Expressions, with ample memory.
 ghost use Rattle.std.specs.Prelude.{◌≤◌, length};
 
-use crate::parse_expression;
+use jo_syntax::parse_expression;
 use jo_lex::{ParseFault, Refusal, RefusalKind, tokens};
 use jo_value::Texts;
 use std::alloc::Global;

@@ -1,5 +1,5 @@
 // Scripts of the form and others, built by hand, with ample memory.
-use crate::form_of;
+use jo_form::form_of;
 use jo_tree::{
     Access, Assign, AssignOperator, Chain, Cond, Expr, Ident, Item, Keyword, Let, Member, Name,
     Postfix, Primary, Script, Statement, Target, Unary,

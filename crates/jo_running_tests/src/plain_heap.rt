@@ -1,5 +1,5 @@
 // Calls on the slow heap, with ample memory.
-use crate::{Call, PlainHeap, Reply};
+use jo_model::{Call, PlainHeap, Reply};
 use jo_value::{Key, NameId, ObjId, Value};
 use std::alloc::AllocError;
 use std::process::Abort;

@@ -1,5 +1,5 @@
 // Each public call once, and what no clause says: that a call ends well where there is memory.
-use crate::{ReadError, add_heap, add_line, add_run, add_value, read_all, write_all};
+use jo_text::{ReadError, add_heap, add_line, add_run, add_value, read_all, write_all};
 use jo_io::{Failed, MemorySink, MemorySource};
 use jo_model::{Call, Outcome, PlainHeap};
 use jo_value::{Key, NameId, ObjId, TextId, Texts, Value};

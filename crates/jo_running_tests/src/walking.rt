@@ -1,5 +1,5 @@
 // Whole scripts, with ample memory.
-use crate::walk;
+use jo_walk::walk;
 use jo_form::{Form, Step};
 use jo_model::Outcome;
 use jo_value::{NameId, Texts};

@@ -1,0 +1,40 @@
+// How a run ended.
+ghost use Rattle.std.specs.Prelude.{◌≡◌};
+
+/// How a run ended.
+#[derive(Clone, Copy, Debug, PartialEq, Eq)]
+pub enum Status {
+    /// All is well: the output text was written.
+    Done,
+    /// The words are no form: the usage line was written.
+    Usage,
+    /// The input is no accepted set, or uses what is not built yet: the refusal line was written.
+    Refused,
+    /// The input has too many bytes: the size line was written.
+    TooLarge,
+    /// A read failed: nothing was written.
+    ReadFault,
+    /// A write failed: a prefix of the text was written.
+    WriteFault,
+    /// No memory was left: nothing was written.
+    Memory,
+}
+
+impl Status {
+    ghost use Rattle.jo_program.specs.Run.{status_number};
+
+    /// The exit status of the program.
+    pub fn number(self) -> u8
+        ensures { result ≡ status_number self }
+    {
+        match self {
+            Status::Done => 0,
+            Status::Usage => 1,
+            Status::Refused => 2,
+            Status::TooLarge => 3,
+            Status::ReadFault => 4,
+            Status::WriteFault => 5,
+            Status::Memory => 7,
+        }
+    }
+}
