@@ -2,6 +2,5 @@ pub mod Lists
 pub mod Rooms
 pub mod Targets
 pub mod Rules
-pub mod Given
 pub mod ScriptRules
 pub mod Exactly

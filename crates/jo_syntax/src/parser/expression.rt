@@ -57,17 +57,18 @@ impl<'a> Parser<'a> {
     /// The rest of an assignment, from its operator on.
     #[cycle(parser)]
     #[tactic(auto, using(crate::proofs::Rules::reading))]
-    fn assignment(&mut self, room: u8, ins: bool, target: Target) -> Result<Assign, Stop>
+    fn assignment(&mut self, room: u8, ins: bool, target: Target) -> Result<Boxed<Assign>, Stop>
         ensures { Reads assign_tree (assigned room (under room) ins (target_tree target) self.old.tokens) result self.new.tokens }
     {
         let operator = assign_of(self.tokens.peek());
         let inner = self.tokens.open(room)?;
         let value = self.nested(inner, ins)?;
-        Ok(Assign {
+        let assign = Assign {
             target,
             operator,
             value,
-        })
+        };
+        Ok(Boxed::new(self.alloc, assign)?)
     }
 
     #[cycle(parser)]
@@ -79,7 +80,6 @@ impl<'a> Parser<'a> {
         if !self.tokens.sees(Punct::Question) {
             return Ok(Cond::Chain(condition));
         }
-        let condition = Boxed::new(self.alloc, condition)?;
         let inner = self.tokens.open(room)?;
         Ok(Cond::Choice(self.choice(inner, ins, condition)?))
     }
@@ -87,16 +87,17 @@ impl<'a> Parser<'a> {
     /// The rest of a choice behind its question mark.
     #[cycle(parser)]
     #[tactic(auto, using(crate::proofs::Rules::reading), unfolding(jo_grammar::specs::Read::choice))]
-    fn choice(&mut self, inner: u8, ins: bool, condition: Boxed<Chain>) -> Result<Choice, Stop>
+    fn choice(&mut self, inner: u8, ins: bool, condition: Chain) -> Result<Boxed<Choice>, Stop>
         ensures { Reads choice_tree (spec.choice (spec.read inner) ins (chain_tree condition) self.old.tokens) result self.new.tokens }
     {
         let then = self.nested(inner, ins)?;
         self.tokens.expect(Punct::Colon)?;
         let otherwise = self.nested(inner, ins)?;
-        Ok(Choice {
+        let choice = Choice {
             condition,
             then,
             otherwise,
-        })
+        };
+        Ok(Boxed::new(self.alloc, choice)?)
     }
 }
