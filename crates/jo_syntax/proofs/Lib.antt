@@ -1,5 +1,6 @@
 pub mod Lists
 pub mod Rooms
+pub mod Parts
 pub mod Targets
 pub mod Rules
 pub mod ScriptRules
