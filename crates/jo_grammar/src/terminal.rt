@@ -5,7 +5,7 @@ use jo_tree::{Ident, Keyword, Literal};
 use jo_value::TextId;
 
 /// A token as the grammar sees it: where it does not matter, without its place and text.
-#[derive(Clone, Copy, Debug, PartialEq, Eq)]
+#[derive(Clone, Copy)]
 pub enum Terminal {
     /// A word that is not reserved.
     Ident(Ident),

@@ -3,7 +3,7 @@
 use std::alloc::AllocError;
 
 /// After a refusal the parser stands at the offending token, so none is named.
-#[derive(Clone, Copy, Debug, PartialEq, Eq, Drop)]
+#[derive(Clone, Copy)]
 pub(crate) enum Stop {
     Memory,
     Unexpected,

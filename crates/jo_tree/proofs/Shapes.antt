@@ -32,18 +32,18 @@ use Rattle.jo_tree.specs.Views.{expr_tree, target_tree, cond_tree, chain_tree, u
 
 -- ---- the lists of the code
 
-links-row : (ls : List Link) → links_row (Rattle.jo_tree.specs.declared.expr.Access.TheBlock.hidden-the_row-Link-4 ls) ≡ links_list ls
-unfolding expr_tree Rattle.jo_tree.specs.declared.expr.Access.TheBlock.hidden-the_row-Link-4 denote.Hole.Carrier.hidden
+links-row : (ls : List Link) → links_row (Rattle.jo_tree.specs.declared.expr.Access.TheBlock.hidden-the_row-Link-9 ls) ≡ links_list ls
+unfolding expr_tree Rattle.jo_tree.specs.declared.expr.Access.TheBlock.hidden-the_row-Link-9 denote.Hole.Carrier.hidden
 links-row [] = refl
 links-row (l ∷ ls) = ap (λ v. link l.operator (chain_tree l.operand) v) (links-row ls)
 
-props-row : (ps : List Prop) → props_row (Rattle.jo_tree.specs.declared.expr.Access.TheBlock.hidden-the_row-Prop-5 ps) ≡ props_list ps
-unfolding expr_tree Rattle.jo_tree.specs.declared.expr.Access.TheBlock.hidden-the_row-Prop-5 Rattle.jo_tree.specs.declared.expr.Access.TheBlock.hidden-the_row-Expr-0 denote.Hole.Carrier.hidden
+props-row : (ps : List Prop) → props_row (Rattle.jo_tree.specs.declared.expr.Access.TheBlock.hidden-the_row-Prop-10 ps) ≡ props_list ps
+unfolding expr_tree Rattle.jo_tree.specs.declared.expr.Access.TheBlock.hidden-the_row-Prop-10 Rattle.jo_tree.specs.declared.expr.Access.TheBlock.hidden-the_row-Expr-0 denote.Hole.Carrier.hidden
 props-row [] = refl
 props-row (p ∷ ps) = ap (λ v. prop p.key (expr_tree p.value) v) (props-row ps)
 
-accesses-row : (xs : List Access) → accesses_row (Rattle.jo_tree.specs.declared.expr.Access.TheBlock.hidden-the_row-Access-2 xs) ≡ accesses_list xs
-unfolding expr_tree Rattle.jo_tree.specs.declared.expr.Access.TheBlock.hidden-the_row-Access-2 Rattle.jo_tree.specs.declared.expr.Access.TheBlock.hidden-the_row-Expr-0 denote.Hole.Carrier.hidden
+accesses-row : (xs : List Access) → accesses_row (Rattle.jo_tree.specs.declared.expr.Access.TheBlock.hidden-the_row-Access-4 xs) ≡ accesses_list xs
+unfolding expr_tree Rattle.jo_tree.specs.declared.expr.Access.TheBlock.hidden-the_row-Access-4 Rattle.jo_tree.specs.declared.expr.Access.TheBlock.hidden-the_row-Expr-0 denote.Hole.Carrier.hidden
 accesses-row [] = refl
 accesses-row (a.Name k ∷ xs) = ap (λ v. field k v) (accesses-row xs)
 accesses-row (a.Key' q (more_of-Expr e end_of-Expr) ∷ xs) = ap (λ v. index (expr_tree e) v) (accesses-row xs)
@@ -59,7 +59,7 @@ unfolding expr_tree
 expr_tree-cond v = refl
 
 pub expr_tree-assign : (v : Assign) → expr_tree (e.Assign v) ≡ assign_tree v
-unfolding expr_tree Rattle.jo_tree.specs.declared.expr.Access.TheBlock.hidden-the_row-Expr-0 denote.Hole.Carrier.hidden
+unfolding expr_tree Rattle.jo_tree.specs.declared.expr.Access.TheBlock.hidden-the_row-Expr-0 Rattle.jo_tree.specs.declared.expr.Access.TheBlock.hidden-the_row-Assign-3 denote.Hole.Carrier.hidden
 expr_tree-assign v = refl
 
 pub target_tree-ident : (v : Ident) → target_tree (t.Ident v) ≡ variable v
@@ -67,7 +67,7 @@ unfolding expr_tree
 target_tree-ident v = refl
 
 pub target_tree-member : (v : Member) → target_tree (t.Member v) ≡ member_tree v
-unfolding expr_tree denote.Hole.Carrier.hidden
+unfolding expr_tree Rattle.jo_tree.specs.declared.expr.Access.TheBlock.hidden-the_row-Member-5 denote.Hole.Carrier.hidden
 target_tree-member v = ap (λ xs. member (primary_tree v.base) xs) (accesses-row v.accesses)
 
 pub cond_tree-chain : (v : Chain) → cond_tree (c.Chain v) ≡ chain_tree v
@@ -75,7 +75,7 @@ unfolding expr_tree
 cond_tree-chain v = refl
 
 pub cond_tree-choice : (v : Choice) → cond_tree (c.Choice v) ≡ choice_tree v
-unfolding expr_tree Rattle.jo_tree.specs.declared.expr.Access.TheBlock.hidden-the_row-Expr-0 Rattle.jo_tree.specs.declared.expr.Access.TheBlock.hidden-the_row-Chain-1 denote.Hole.Carrier.hidden
+unfolding expr_tree Rattle.jo_tree.specs.declared.expr.Access.TheBlock.hidden-the_row-Expr-0 Rattle.jo_tree.specs.declared.expr.Access.TheBlock.hidden-the_row-Choice-2 denote.Hole.Carrier.hidden
 cond_tree-choice v = refl
 
 pub chain_tree-unary : (v : Unary) → chain_tree (h.Unary v) ≡ unary_tree v
@@ -83,15 +83,15 @@ unfolding expr_tree
 chain_tree-unary v = refl
 
 pub chain_tree-binary : (k : ℕ) (f : Chain) (ls : List Link) → chain_tree (h.Binary (roll-Binary record { level = k; first = f; links = ls })) ≡ chain k (chain_tree f) (links_list ls)
-unfolding expr_tree Rattle.jo_tree.specs.declared.expr.Access.TheBlock.hidden-the_row-Chain-1 denote.Hole.Carrier.hidden roll-Binary denote.Hole.Carrier.roll
+unfolding expr_tree Rattle.jo_tree.specs.declared.expr.Access.TheBlock.hidden-the_row-Binary-1 denote.Hole.Carrier.hidden roll-Binary denote.Hole.Carrier.roll
 chain_tree-binary k f ls = ap (λ v. chain k (chain_tree f) v) (links-row ls)
 
 pub unary_tree-applied : (o : UnaryOperator) (v : Unary) → unary_tree (u.Applied o v) ≡ unary o (unary_tree v)
-unfolding expr_tree Rattle.jo_tree.specs.declared.expr.Access.TheBlock.hidden-the_row-Unary-3 denote.Hole.Carrier.hidden
+unfolding expr_tree Rattle.jo_tree.specs.declared.expr.Access.TheBlock.hidden-the_row-Unary-8 denote.Hole.Carrier.hidden
 unary_tree-applied o v = refl
 
 pub unary_tree-delete : (v : Member) → unary_tree (u.Delete v) ≡ delete (member_tree v)
-unfolding expr_tree denote.Hole.Carrier.hidden
+unfolding expr_tree Rattle.jo_tree.specs.declared.expr.Access.TheBlock.hidden-the_row-Member-5 denote.Hole.Carrier.hidden
 unary_tree-delete v = ap (λ xs. delete (member (primary_tree v.base) xs)) (accesses-row v.accesses)
 
 pub unary_tree-postfix : (v : Postfix) → unary_tree (u.Postfix v) ≡ postfix_tree v
@@ -103,7 +103,7 @@ unfolding expr_tree
 postfix_tree-primary v = refl
 
 pub postfix_tree-member : (v : Member) → postfix_tree (x.Member v) ≡ member_tree v
-unfolding expr_tree denote.Hole.Carrier.hidden
+unfolding expr_tree Rattle.jo_tree.specs.declared.expr.Access.TheBlock.hidden-the_row-Member-5 denote.Hole.Carrier.hidden
 postfix_tree-member v = ap (λ xs. member (primary_tree v.base) xs) (accesses-row v.accesses)
 
 pub primary_tree-number : (n : ℤ) → primary_tree (p.Number n) ≡ number n
@@ -139,7 +139,7 @@ unfolding expr_tree
 primary_tree-ident v = refl
 
 pub primary_tree-object : (v : Object) → primary_tree (p.Object v) ≡ object_tree v
-unfolding expr_tree
+unfolding expr_tree Rattle.jo_tree.specs.declared.expr.Access.TheBlock.hidden-the_row-Object-6 denote.Hole.Carrier.hidden
 primary_tree-object v = refl
 
 pub object_tree-of : (ps : List Prop) (comma : Bool) → object_tree (roll-Object record { props = ps; has_comma = comma }) ≡ object (props_list ps) comma
@@ -151,7 +151,7 @@ unfolding expr_tree Rattle.jo_tree.specs.declared.expr.Access.TheBlock.hidden-th
 primary_tree-group v = refl
 
 pub primary_tree-cas : (v : Cas) → primary_tree (p.Cas v) ≡ cas_tree v
-unfolding expr_tree Rattle.jo_tree.specs.declared.expr.Access.TheBlock.hidden-the_row-Expr-0 denote.Hole.Carrier.hidden
+unfolding expr_tree Rattle.jo_tree.specs.declared.expr.Access.TheBlock.hidden-the_row-Expr-0 Rattle.jo_tree.specs.declared.expr.Access.TheBlock.hidden-the_row-Cas-7 denote.Hole.Carrier.hidden
 primary_tree-cas v = refl
 
 -- the trees of the kinds of expression

@@ -4,7 +4,7 @@ use Rattle.jo_tree.specs.declared.keyword.Keyword.TheVariants as kw
 use Rattle.jo_tree.specs.declared.expr.Expr.{Expr, more_of-Expr, end_of-Expr}
 use Rattle.jo_tree.specs.declared.expr.Cond.{Cond}
 use Rattle.jo_tree.specs.declared.expr.Chain.{Chain}
-use Rattle.jo_tree.specs.declared.expr.Binary.{Binary, Binary', more_of-Chain, end_of-Chain, Row_of-Link, more_of-Link, end_of-Link}
+use Rattle.jo_tree.specs.declared.expr.Binary.{Binary, Binary', Row_of-Link, more_of-Link, end_of-Link}
 use Rattle.jo_tree.specs.declared.expr.Member.{Member, Row_of-Access, more_of-Access, end_of-Access}
 use Rattle.jo_tree.specs.declared.expr.Object.{Object, Object', Row_of-Prop, more_of-Prop, end_of-Prop}
 use Rattle.jo_tree.specs.declared.expr.Unary.{Unary, more_of-Unary, end_of-Unary}
@@ -17,6 +17,7 @@ use Rattle.jo_tree.specs.declared.expr.Choice.{Choice}
 use Rattle.jo_tree.specs.declared.expr.Cas.{Cas}
 use Rattle.jo_tree.specs.declared.expr.Prop.{Prop}
 use Rattle.jo_tree.specs.declared.expr.Link.{Link}
+use Rattle.jo_tree.specs.declared.expr.Access.TheBlock.{more_of-Assign, end_of-Assign, more_of-Member, end_of-Member, more_of-Choice, end_of-Choice, more_of-Binary, end_of-Binary, more_of-Object, end_of-Object, more_of-Cas, end_of-Cas}
 use Rattle.jo_tree.specs.declared.expr.Expr.TheVariants as e
 use Rattle.jo_tree.specs.declared.expr.Cond.TheVariants as c
 use Rattle.jo_tree.specs.declared.expr.Chain.TheVariants as h
@@ -30,31 +31,31 @@ use Rattle.jo_tree.specs.Trees.{Tree, number, literal, constant, variable, group
 unfoldable mutual
   pub expr_tree : Expr → Tree
   expr_tree (e.Cond c) = cond_tree c
-  expr_tree (e.Assign' t o p (more_of-Expr v end_of-Expr)) = assign o (target_tree t) (expr_tree v)
+  expr_tree (e.Assign' p (more_of-Assign t o q (more_of-Expr v end_of-Expr) end_of-Assign)) = assign o (target_tree t) (expr_tree v)
 
   pub target_tree : Target → Tree
   target_tree (t.Ident i) = variable i
-  target_tree (t.Member' b n xs) = member (primary_tree b) (accesses_row xs)
+  target_tree (t.Member' p (more_of-Member b n xs end_of-Member)) = member (primary_tree b) (accesses_row xs)
 
   pub cond_tree : Cond → Tree
   cond_tree (c.Chain h) = chain_tree h
-  cond_tree (c.Choice' o (more_of-Chain h end_of-Chain) p (more_of-Expr a end_of-Expr) q (more_of-Expr b end_of-Expr)) = choose (chain_tree h) (expr_tree a) (expr_tree b)
+  cond_tree (c.Choice' o (more_of-Choice h p (more_of-Expr a end_of-Expr) q (more_of-Expr b end_of-Expr) end_of-Choice)) = choose (chain_tree h) (expr_tree a) (expr_tree b)
 
   pub chain_tree : Chain → Tree
   chain_tree (h.Unary u) = unary_tree u
-  chain_tree (h.Binary b) = binary_tree b
+  chain_tree (h.Binary' p (more_of-Binary b end_of-Binary)) = binary_tree b
 
   pub binary_tree : Binary → Tree
-  binary_tree (Binary' l p (more_of-Chain f end_of-Chain) n ls) = chain l (chain_tree f) (links_row ls)
+  binary_tree (Binary' l f n ls) = chain l (chain_tree f) (links_row ls)
 
   pub unary_tree : Unary → Tree
   unary_tree (u.Applied' o p (more_of-Unary v end_of-Unary)) = unary o (unary_tree v)
-  unary_tree (u.Delete' b n xs) = delete (member (primary_tree b) (accesses_row xs))
+  unary_tree (u.Delete' p (more_of-Member b n xs end_of-Member)) = delete (member (primary_tree b) (accesses_row xs))
   unary_tree (u.Postfix x) = postfix_tree x
 
   pub postfix_tree : Postfix → Tree
   postfix_tree (x.Primary b) = primary_tree b
-  postfix_tree (x.Member' b n xs) = member (primary_tree b) (accesses_row xs)
+  postfix_tree (x.Member' p (more_of-Member b n xs end_of-Member)) = member (primary_tree b) (accesses_row xs)
 
   pub primary_tree : Primary → Tree
   primary_tree (p.Number n) = number n
@@ -65,9 +66,9 @@ unfoldable mutual
   primary_tree p.Undefined = constant kw.Undefined
   primary_tree p.Shared = constant kw.Shared
   primary_tree (p.Ident i) = variable i
-  primary_tree (p.Object o) = object_tree o
+  primary_tree (p.Object' q (more_of-Object o end_of-Object)) = object_tree o
   primary_tree (p.Group' q (more_of-Expr v end_of-Expr)) = group (expr_tree v)
-  primary_tree (p.Cas' q (more_of-Expr o end_of-Expr) r (more_of-Expr k end_of-Expr) s (more_of-Expr a end_of-Expr) t (more_of-Expr b end_of-Expr)) = cas (expr_tree o) (expr_tree k) (expr_tree a) (expr_tree b)
+  primary_tree (p.Cas' m (more_of-Cas q (more_of-Expr o end_of-Expr) r (more_of-Expr k end_of-Expr) s (more_of-Expr a end_of-Expr) t (more_of-Expr b end_of-Expr) end_of-Cas)) = cas (expr_tree o) (expr_tree k) (expr_tree a) (expr_tree b)
 
   pub object_tree : Object → Tree
   object_tree (Object' n ps comma) = object (props_row ps) comma

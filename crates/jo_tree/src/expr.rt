@@ -1,4 +1,5 @@
-// Expressions: a type for each rule of the grammar, but one for all levels of binary operators.
+// Expressions: a type for each rule of the grammar, but one for all levels of binary operators. What is large stands in
+// boxes, so that an expression is small wherever it is passed on.
 
 use crate::{AssignOperator, BinaryOperator, Ident, Literal, Name, PropKey, UnaryOperator};
 use sqlite_items::{Boxed, Items};
@@ -8,7 +9,7 @@ use sqlite_items::{Boxed, Items};
 #[derive(Drop)]
 pub enum Expr {
     Cond(Cond),
-    Assign(Assign),
+    Assign(Boxed<Assign>),
 }
 
 /// A target that is given a value.
@@ -25,7 +26,7 @@ pub struct Assign {
 #[derive(Drop)]
 pub enum Target {
     Ident(Ident),
-    Member(Member),
+    Member(Boxed<Member>),
 }
 
 /// A conditional expression, or a chain of operators.
@@ -33,14 +34,14 @@ pub enum Target {
 #[derive(Drop)]
 pub enum Cond {
     Chain(Chain),
-    Choice(Choice),
+    Choice(Boxed<Choice>),
 }
 
 /// A conditional expression.
 #[cycle(tree)]
 #[derive(Drop)]
 pub struct Choice {
-    pub condition: Boxed<Chain>,
+    pub condition: Chain,
     pub then: Boxed<Expr>,
     pub otherwise: Boxed<Expr>,
 }
@@ -50,7 +51,7 @@ pub struct Choice {
 #[derive(Drop)]
 pub enum Chain {
     Unary(Unary),
-    Binary(Binary),
+    Binary(Boxed<Binary>),
 }
 
 /// Operands that binary operators of one level join. There are two operands at least.
@@ -59,7 +60,7 @@ pub enum Chain {
 pub struct Binary {
     /// How tightly the operators bind, from 3 for `||` to 8 for `*`.
     pub level: u8,
-    pub first: Boxed<Chain>,
+    pub first: Chain,
     pub links: Items<Link>,
 }
 
@@ -76,7 +77,7 @@ pub struct Link {
 #[derive(Drop)]
 pub enum Unary {
     Applied(UnaryOperator, Boxed<Unary>),
-    Delete(Member),
+    Delete(Boxed<Member>),
     Postfix(Postfix),
 }
 
@@ -85,7 +86,7 @@ pub enum Unary {
 #[derive(Drop)]
 pub enum Postfix {
     Primary(Primary),
-    Member(Member),
+    Member(Boxed<Member>),
 }
 
 /// A property, through one access at least.
@@ -118,9 +119,9 @@ pub enum Primary {
     Undefined,
     Shared,
     Ident(Ident),
-    Object(Object),
+    Object(Boxed<Object>),
     Group(Boxed<Expr>),
-    Cas(Cas),
+    Cas(Boxed<Cas>),
 }
 
 /// An object literal.

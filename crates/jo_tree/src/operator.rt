@@ -1,7 +1,7 @@
 // The operators of expressions.
 
 /// An operator before its operand.
-#[derive(Clone, Copy, Debug, PartialEq, Eq)]
+#[derive(Clone, Copy)]
 pub enum UnaryOperator {
     /// `-`
     Minus,
@@ -10,7 +10,7 @@ pub enum UnaryOperator {
 }
 
 /// An operator between two operands.
-#[derive(Clone, Copy, Debug, PartialEq, Eq)]
+#[derive(Clone, Copy)]
 pub enum BinaryOperator {
     /// `||`
     Or,
@@ -41,7 +41,7 @@ pub enum BinaryOperator {
 }
 
 /// An operator that gives its target a value.
-#[derive(Clone, Copy, Debug, PartialEq, Eq)]
+#[derive(Clone, Copy)]
 pub enum AssignOperator {
     /// `=`
     Set,

@@ -4,7 +4,7 @@ use crate::Keyword;
 use jo_value::TextId;
 
 /// A word that is not reserved.
-#[derive(Clone, Copy, Debug, PartialEq, Eq)]
+#[derive(Clone, Copy)]
 pub struct Ident {
     /// Its number in the table of texts.
     pub text: TextId,
@@ -15,7 +15,7 @@ pub struct Ident {
 }
 
 /// A text literal.
-#[derive(Clone, Copy, Debug, PartialEq, Eq)]
+#[derive(Clone, Copy)]
 pub struct Literal {
     /// The number, in the table of texts, of what it stands for.
     pub text: TextId,
@@ -24,7 +24,7 @@ pub struct Literal {
 }
 
 /// Any word, as the name of a property.
-#[derive(Clone, Copy, Debug, PartialEq, Eq)]
+#[derive(Clone, Copy)]
 pub enum Name {
     /// A word that is not reserved.
     Ident(Ident),
@@ -35,7 +35,7 @@ pub enum Name {
 }
 
 /// The key of a property of an object literal.
-#[derive(Clone, Copy, Debug, PartialEq, Eq)]
+#[derive(Clone, Copy)]
 pub enum PropKey {
     Name(Name),
     Text(Literal),
