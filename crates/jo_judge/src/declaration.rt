@@ -1,13 +1,23 @@
 // Declarations of variables.
 ghost use Rattle.std.specs.Prelude.{◌≡◌, OnOk};
 ghost use Rattle.jo_scope.specs.Declarations.{behind_all, faults_of_bindings, faults_of_name, faults_of_uses, uses_of_optional};
-ghost use Rattle.jo_judge.specs.Blocks.{Ends, Judges, Moves, all_of, answer_to, binding_faults};
+ghost use Rattle.jo_judge.specs.Blocks.{Ends, Judges, Moves, all_of, answer_to, binding_faults, refused};
 ghost use Rattle.jo_tree.specs.ScriptViews.{binding_tree, bindings_list, option_tree};
 
 use crate::scopes::Scopes;
 use jo_lex::{ParseFault, Refusal, RefusalKind};
 use jo_tree::{Binding, Expr, Ident};
 use sqlite_items::Boxed;
+
+/// The answer, as one to a set of scripts.
+pub(crate) fn fault(answer: Result<(), Refusal>) -> Result<(), ParseFault>
+    ensures { result ≡ refused answer }
+{
+    match answer {
+        Ok(()) => Ok(()),
+        Err(refusal) => Err(ParseFault::Refused(refusal)),
+    }
+}
 
 impl Scopes {
     /// An expression that may be left out.
@@ -47,10 +57,9 @@ impl Scopes {
         ensures block { OnOk result (Ends self.old.0 binding.now.ident.text.0 self.new.0) }
         ensures outer { OnOk result (self.new.1 ≡ self.old.1) }
     {
-        match self.begun(binding) {
-            Ok(()) => self.end(binding.ident.text.0),
-            Err(refusal) => Err(ParseFault::Refused(refusal)),
-        }
+        fault(self.begun(binding))?;
+        self.end(binding.ident.text.0)?;
+        Ok(())
     }
 
     /// The declarations of a `let` of the innermost block.

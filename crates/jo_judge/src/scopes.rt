@@ -1,12 +1,11 @@
 // The blocks around a place.
-ghost use Rattle.std.specs.Prelude.{◌≡◌, [], ◌∷◌, IfErr, IfOk, OnOk, reverse};
+ghost use Rattle.std.specs.Prelude.{◌≡◌, [], ◌∷◌, IfOk, OnOk, reverse};
 ghost use Rattle.jo_scope.specs.Declarations.{at_beginning, is_among, is_bound};
 ghost use Rattle.jo_judge.specs.Blocks.{Ends, IsAlike, all_of, left};
 ghost use Rattle.jo_tree.specs.Blocks.{declared_in, names_of};
 ghost use Rattle.jo_tree.specs.ScriptViews.{bindings_list, items_list};
 
 use crate::block::Block;
-use jo_lex::ParseFault;
 use jo_tree::{Binding, Item};
 use std::alloc::{AllocError, Global};
 use std::marker::Model;
@@ -61,44 +60,26 @@ impl Scopes {
     }
 
     /// The block of the items, at its beginning.
-    pub(crate) fn of_items(&self, items: &[Item]) -> Result<Block, ParseFault>
-        ensures err { IfErr result (λ fault. fault ≡ ParseFault.Memory) }
-        ensures ok { IfOk result (λ block. IsAlike block (at_beginning (declared_in (items_list items.now)))) }
+    pub(crate) fn of_items(&self, items: &[Item]) -> Result<Block, AllocError>
+        ensures { IfOk result (λ block. IsAlike block (at_beginning (declared_in (items_list items.now)))) }
     {
-        match Block::of_items(self.alloc, items) {
-            Ok(block) => Ok(block),
-            Err(_) => Err(ParseFault::Memory),
-        }
+        Block::of_items(self.alloc, items)
     }
 
     /// The block of a `for` with these declarations, at its beginning.
-    pub(crate) fn of_bindings(&self, bindings: &[Binding]) -> Result<Block, ParseFault>
-        ensures err { IfErr result (λ fault. fault ≡ ParseFault.Memory) }
-        ensures ok { IfOk result (λ block. IsAlike block (at_beginning (names_of (bindings_list bindings.now)))) }
+    pub(crate) fn of_bindings(&self, bindings: &[Binding]) -> Result<Block, AllocError>
+        ensures { IfOk result (λ block. IsAlike block (at_beginning (names_of (bindings_list bindings.now)))) }
     {
-        match Block::of_bindings(self.alloc, bindings) {
-            Ok(block) => Ok(block),
-            Err(_) => Err(ParseFault::Memory),
-        }
+        Block::of_bindings(self.alloc, bindings)
     }
 
-    fn push(&mut self, block: Block) -> Result<(), AllocError>
+    /// Goes into a block.
+    pub(crate) fn enter(&mut self, block: Block) -> Result<(), AllocError>
         ensures { OnOk result (self.new ≡ (block, all_of self.old)) }
     {
         let before = mem::replace(&mut self.innermost, block);
         self.outer.push(before)?;
         Ok(())
-    }
-
-    /// Goes into a block.
-    pub(crate) fn enter(&mut self, block: Block) -> Result<(), ParseFault>
-        ensures err { IfErr result (λ fault. fault ≡ ParseFault.Memory) }
-        ensures ok { OnOk result (self.new ≡ (block, all_of self.old)) }
-    {
-        match self.push(block) {
-            Ok(()) => Ok(()),
-            Err(_) => Err(ParseFault::Memory),
-        }
     }
 
     /// Goes out of the innermost block.
@@ -111,15 +92,11 @@ impl Scopes {
     }
 
     /// A binding of the name has ended.
-    pub(crate) fn end(&mut self, name: u16) -> Result<(), ParseFault>
-        ensures err { IfErr result (λ fault. fault ≡ ParseFault.Memory) }
+    pub(crate) fn end(&mut self, name: u16) -> Result<(), AllocError>
         ensures block { OnOk result (Ends self.old.0 name self.new.0) }
         ensures outer { OnOk result (self.new.1 ≡ self.old.1) }
     {
-        match self.innermost.end(name) {
-            Ok(()) => Ok(()),
-            Err(_) => Err(ParseFault::Memory),
-        }
+        self.innermost.end(name)
     }
 
     pub(crate) fn has_ended(&self, name: u16) -> bool

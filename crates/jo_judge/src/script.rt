@@ -16,9 +16,6 @@ pub fn judge(alloc: Global, script: &Script) -> Result<(), ParseFault>
     ensures refused { IfErr result (IsNameFault (script_tree script.now)) }
 {
     let items = script.items.as_slice();
-    let Ok(block) = Block::of_items(alloc, items) else {
-        return Err(ParseFault::Memory);
-    };
-    let mut scopes = Scopes::new(alloc, block);
+    let mut scopes = Scopes::new(alloc, Block::of_items(alloc, items)?);
     scopes.items(items)
 }

@@ -1,25 +1,17 @@
 // Statements, and the items of blocks.
 ghost use Rattle.std.specs.Prelude.{◌≡◌, ◌++◌, OnOk};
 ghost use Rattle.jo_scope.specs.Declarations.{at_beginning, at_end, faults_of, faults_of_head, faults_of_items, faults_of_uses, uses_of, uses_of_all, uses_of_optional};
-ghost use Rattle.jo_judge.specs.Blocks.{Enters, Judges, Moves, all_of, answer_to, behind_item, item_faults, refused, round_faults};
+ghost use Rattle.jo_judge.specs.Blocks.{Enters, Judges, Moves, all_of, answer_to, behind_item, item_faults, round_faults};
 ghost use Rattle.jo_tree.specs.Blocks.{declared_by, declared_in, names_of};
 ghost use Rattle.jo_tree.specs.ScriptViews.{bindings_list, head_tree, if_tree, items_list, option_tree, optional_statement, statement_tree, trees_list};
 ghost use Rattle.jo_tree.specs.Trees.{declares, for, while};
 ghost use Rattle.jo_tree.specs.Views.{expr_tree};
 
+use crate::declaration::fault;
 use crate::scopes::Scopes;
 use jo_lex::{ParseFault, Refusal};
 use jo_tree::{Binding, Expr, For, ForHead, If, Item, Statement, While};
 use sqlite_items::Boxed;
-
-fn fault(answer: Result<(), Refusal>) -> Result<(), ParseFault>
-    ensures { result ≡ refused answer }
-{
-    match answer {
-        Ok(()) => Ok(()),
-        Err(refusal) => Err(ParseFault::Refused(refusal)),
-    }
-}
 
 impl Scopes {
     // Several expressions.
@@ -91,7 +83,8 @@ impl Scopes {
             ForHead::Let(declaration) => self.declarations(declaration.bindings.as_slice()),
             ForHead::Expr(expr) => {
                 self.step(expr)?;
-                self.enter(self.empty_block())
+                self.enter(self.empty_block())?;
+                Ok(())
             }
         }
     }

@@ -35,7 +35,7 @@ impl Scopes {
     {
         match expr {
             Expr::Cond(cond) => self.cond(cond),
-            Expr::Assign(assign) => self.assign(assign),
+            Expr::Assign(assign) => self.assign(assign.get()),
         }
     }
 
@@ -55,7 +55,7 @@ impl Scopes {
     {
         match target {
             Target::Ident(ident) => self.name(*ident),
-            Target::Member(member) => self.member(member),
+            Target::Member(member) => self.member(member.get()),
         }
     }
 
@@ -66,7 +66,7 @@ impl Scopes {
     {
         match cond {
             Cond::Chain(chain) => self.chain(chain),
-            Cond::Choice(choice) => self.choice(choice),
+            Cond::Choice(choice) => self.choice(choice.get()),
         }
     }
 
@@ -75,7 +75,7 @@ impl Scopes {
     fn choice(&self, choice: &Choice) -> Result<(), Refusal>
         ensures { result ≡ answer_to (faults_of_uses (all_of self.now) (uses_of (choice_tree choice.now))) }
     {
-        self.chain(choice.condition.get())?;
+        self.chain(&choice.condition)?;
         self.expr(choice.then.get())?;
         self.expr(choice.otherwise.get())
     }
@@ -88,7 +88,8 @@ impl Scopes {
         match chain {
             Chain::Unary(unary) => self.unary(unary),
             Chain::Binary(binary) => {
-                self.chain(binary.first.get())?;
+                let binary = binary.get();
+                self.chain(&binary.first)?;
                 self.links(binary.links.as_slice())
             }
         }
@@ -112,7 +113,7 @@ impl Scopes {
     {
         match unary {
             Unary::Applied(_, operand) => self.unary(operand.get()),
-            Unary::Delete(member) => self.member(member),
+            Unary::Delete(member) => self.member(member.get()),
             Unary::Postfix(postfix) => self.postfix(postfix),
         }
     }
@@ -124,7 +125,7 @@ impl Scopes {
     {
         match postfix {
             Postfix::Primary(primary) => self.primary(primary),
-            Postfix::Member(member) => self.member(member),
+            Postfix::Member(member) => self.member(member.get()),
         }
     }
 
@@ -166,9 +167,9 @@ impl Scopes {
     {
         match primary {
             Primary::Ident(ident) => self.name(*ident),
-            Primary::Object(object) => self.props(object.props.as_slice()),
+            Primary::Object(object) => self.props(object.get().props.as_slice()),
             Primary::Group(expr) => self.expr(expr.get()),
-            Primary::Cas(cas) => self.cas(cas),
+            Primary::Cas(cas) => self.cas(cas.get()),
             Primary::Number(_)
             | Primary::Text(_)
             | Primary::True

@@ -22,12 +22,25 @@ use Rattle.jo_meaning.specs.Keys.{key_in, name_value, prop_value}
 abbrev pub Giving : Type 0 → Type 0
 Giving A = (A → Next) → Next
 
+-- the value of a keyword that is a constant; no accepted script has another keyword as one
 abbrev pub constant_value : Keyword → Value
+constant_value keyword.Undefined = value.Undefined
 constant_value keyword.Null = value.Null
 constant_value keyword.True = value.Bool true
 constant_value keyword.False = value.Bool false
 constant_value keyword.Shared = value.Object shared
-constant_value _ = value.Undefined
+constant_value keyword.Break = value.Undefined
+constant_value keyword.Cas = value.Undefined
+constant_value keyword.Continue = value.Undefined
+constant_value keyword.Delete = value.Undefined
+constant_value keyword.Else = value.Undefined
+constant_value keyword.For = value.Undefined
+constant_value keyword.If = value.Undefined
+constant_value keyword.In = value.Undefined
+constant_value keyword.Let = value.Undefined
+constant_value keyword.Print = value.Undefined
+constant_value keyword.PrintNames = value.Undefined
+constant_value keyword.While = value.Undefined
 
 -- what an expression refers to before its value is read (a Reference Record): a value alone, a variable,
 -- or a property by its base and key

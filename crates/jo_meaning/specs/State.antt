@@ -34,10 +34,14 @@ unless_fault (Err fault) next = ends fault
 
 -- a call that is refused ends the script with that outcome
 abbrev pub unless_refused : Reply → Next → Next
+unless_refused (reply.Made o) next = next
+unless_refused (reply.Found v) next = next
+unless_refused (reply.Flag b) next = next
+unless_refused (reply.Names names) next = next
+unless_refused reply.Done next = next
 unless_refused reply.TooManyNames next = ends outcome.TooManyNames
 unless_refused reply.ObjectsSpent next = ends outcome.ObjectsSpent
 unless_refused (reply.Spent spent) next = ends outcome.Spent
-unless_refused _ next = next
 
 -- a call, and what comes next at its reply
 abbrev pub asks : Call → (Reply → Next) → Next
@@ -46,22 +50,46 @@ asks call next s = Asks call s.lines (λ reply. unless_refused reply (next reply
 -- the object in the reply to a New; any other reply that goes on reads as undefined, as in the next two
 abbrev pub made_in : Reply → Value
 made_in (reply.Made o) = value.Object o
-made_in _ = value.Undefined
+made_in (reply.Found v) = value.Undefined
+made_in (reply.Flag b) = value.Undefined
+made_in (reply.Names names) = value.Undefined
+made_in reply.Done = value.Undefined
+made_in reply.TooManyNames = value.Undefined
+made_in reply.ObjectsSpent = value.Undefined
+made_in (reply.Spent spent) = value.Undefined
 
 -- the value in the reply to a Get or a Cas
 abbrev pub found_in : Reply → Value
+found_in (reply.Made o) = value.Undefined
 found_in (reply.Found v) = v
-found_in _ = value.Undefined
+found_in (reply.Flag b) = value.Undefined
+found_in (reply.Names names) = value.Undefined
+found_in reply.Done = value.Undefined
+found_in reply.TooManyNames = value.Undefined
+found_in reply.ObjectsSpent = value.Undefined
+found_in (reply.Spent spent) = value.Undefined
 
 -- the truth value in the reply to a Has
 abbrev pub flag_in : Reply → Value
+flag_in (reply.Made o) = value.Undefined
+flag_in (reply.Found v) = value.Undefined
 flag_in (reply.Flag b) = value.Bool b
-flag_in _ = value.Undefined
+flag_in (reply.Names names) = value.Undefined
+flag_in reply.Done = value.Undefined
+flag_in reply.TooManyNames = value.Undefined
+flag_in reply.ObjectsSpent = value.Undefined
+flag_in (reply.Spent spent) = value.Undefined
 
 -- the names in the reply to a Names; there are none in a reply of another kind
 abbrev pub names_in : Reply → List NameId
+names_in (reply.Made o) = []
+names_in (reply.Found v) = []
+names_in (reply.Flag b) = []
 names_in (reply.Names names) = names
-names_in _ = []
+names_in reply.Done = []
+names_in reply.TooManyNames = []
+names_in reply.ObjectsSpent = []
+names_in (reply.Spent spent) = []
 
 -- ---- turns
 

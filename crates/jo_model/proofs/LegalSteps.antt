@@ -10,27 +10,21 @@ use Rattle.jo_model.specs.Heaps.{Heap, heap_at_start, objects_of, object_of, wit
 use Rattle.jo_model.specs.Objects.{property, has_property, value_of, is_full_for, with_value, with_property}
 use Rattle.jo_value.specs.declared.limits.TheConstants.{MOST_OBJECTS}
 use Rattle.jo_model.specs.One.{one, is_found_as}
-use Rattle.jo_model.specs.History.{Entry, History, IsLegalAfter, IsLawful, IsLawfulSpent, changes_by, is_change, after_entry, heap_after, unless_spent}
+use Rattle.jo_model.specs.History.{Entry, History, IsLegalAfter, IsLawful, IsLawfulSpent, changes_by, is_change, after_entry, heap_after, is_refusal}
 use Rattle.jo_model.specs.Placed.{HeapChange, PlacedCall, weave_from, all_unchanging_at}
 
-unless-same : (r : Reply) (h : Heap) → unless_spent r h h ≡ h
-unless-same (reply.Made o) h = refl
-unless-same (reply.Found v) h = refl
-unless-same (reply.Flag b) h = refl
-unless-same (reply.Names l) h = refl
-unless-same reply.Done h = refl
-unless-same reply.TooManyNames h = refl
-unless-same reply.ObjectsSpent h = refl
-unless-same (reply.Spent s) h = refl
+either-way : (b : Bool) (h : Heap) → (if b then h else h) ≡ h
+either-way true h = refl
+either-way false h = refl
 
 abbrev pub Kept : Heap → Heap × Reply → Type 0
-Kept h a = unless_spent a.1 h a.0 ≡ a.0
+Kept h a = (if is_refusal a.1 then h else a.0) ≡ a.0
 
 kept-if : (h : Heap) (b : Bool) (x y : Heap × Reply) → Kept h x → Kept h y → Kept h (if b then x else y)
 kept-if h true x y p q = p
 kept-if h false x y p q = q
 
--- one thread never runs out of storage
+-- a call that is refused leaves the heap as it is, where there is one thread
 pub kept : (h : Heap) (p : ℕ) (c : Call) → Kept h (one h p c)
 kept h p call.New = kept-if h (nat_lt (length (objects_of h p)) MOST_OBJECTS)
     (with_new_object h p, reply.Made (record { pass = p; number = length (objects_of h p) })) (h, reply.ObjectsSpent) refl refl
@@ -94,8 +88,8 @@ module _ (P : ℕ) where
 
     stays-at : (e : Entry) → Stays heap count e → after_entry heap e ≡ heap
     stays-at e s = elim s.lawful [
-      | inl q ↦ ap (λ a. unless_spent e.reply heap a.0) q ∙ unless-same e.reply heap
-      | inr q ↦ ap (λ r. unless_spent r heap (one heap e.pass e.call).0) q.answered
+      | inl q ↦ ap (λ a. if is_refusal e.reply then heap else a.0) q ∙ either-way (is_refusal e.reply) heap
+      | inr q ↦ ap (λ r. if is_refusal r then heap else (one heap e.pass e.call).0) q.answered
     ]
 
     leads-on : (before : History) (e : Entry) → Leads before heap count → Stays heap count e → Leads (before ++ e ∷ []) heap count

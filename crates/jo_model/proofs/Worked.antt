@@ -249,6 +249,10 @@ one_object_more_is_refused = refl
 
 -- Changes.
 
+-- a number as it was found
+abbrev found : ℕ → Reply
+found n = reply.Found (number n)
+
 -- the heap after three changes: an object of pass 1, a name on it, and the object under a name of the shared one
 pub three_changes_make_an_object_and_share_it :
     after 3 (record { pass = 1; call = call.New }
@@ -272,6 +276,34 @@ pub a_delete_of_a_name_that_is_there_is_a_change :
     is_change (heap_of three) (call.Delete shared (name 2)) (reply.Flag true) ≡ true
 a_delete_of_a_name_that_is_there_is_a_change = refl
 
+-- a New that makes an object is a change
+pub a_new_object_is_a_change : is_change (heap_of three) call.New (reply.Made (record { pass = 1; number = 0 })) ≡ true
+a_new_object_is_a_change = refl
+
+-- a New that is refused is none
+pub a_refused_new_is_no_change : is_change ((three ∷ []) ∷ replicate 4096 empty_object ∷ []) call.New reply.ObjectsSpent ≡ false
+a_refused_new_is_no_change = refl
+
+-- a swap that finds the expected value is a change, also where the desired one is the same
+pub a_swap_that_finds_the_expected_value_is_a_change :
+    is_change (heap_of three) (call.Cas shared (name 1) (number 2) (number 2)) (found 2) ≡ true
+a_swap_that_finds_the_expected_value_is_a_change = refl
+
+-- a swap that finds another value is none
+pub a_swap_that_finds_another_value_is_no_change :
+    is_change (heap_of three) (call.Cas shared (name 1) (number 3) (number 8)) (found 2) ≡ false
+a_swap_that_finds_another_value_is_no_change = refl
+
+-- nor is one of a key that is not there, where undefined is expected
+pub a_swap_of_a_name_that_is_not_there_is_no_change :
+    is_change (heap_of three) (call.Cas shared (name 3) value.Undefined (number 8)) (reply.Found value.Undefined) ≡ false
+a_swap_of_a_name_that_is_not_there_is_no_change = refl
+
+-- a call that is refused for want of storage is no change
+pub a_call_without_storage_is_no_change :
+    is_change (heap_of three) (put (name 1) 9) (reply.Spent (record { used = 1046277; need = 2300 })) ≡ false
+a_call_without_storage_is_no_change = refl
+
 -- Weaving.
 
 -- two passes each put a value under one name
@@ -281,10 +313,6 @@ two_puts = record { pass = 1; call = put (name 0) 1 } ∷ record { pass = 2; cal
 -- a get of that name
 abbrev look : Call
 look = call.Get shared (name 0)
-
--- a number as it was found
-abbrev found : ℕ → Reply
-found n = reply.Found (number n)
 
 -- each reads the name before and after its own put, and pass 2 also asks for the names at the start
 abbrev their_calls : List (List PlacedCall)

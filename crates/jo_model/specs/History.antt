@@ -1,5 +1,5 @@
 -- Legal histories of the calls of several passes.
-use Rattle.std.specs.Prelude.{◌≡◌, ◌⊎◌, ℕ, ◌+◌, ◌*◌, ◌<◌, ◌≤◌, ◌==◌, ◌&&◌, Bool, true, false, List, [], ◌∷◌, ◌++◌, fold, filter, map, if◌then◌else◌}
+use Rattle.std.specs.Prelude.{◌≡◌, ◌⊎◌, ℕ, ◌+◌, ◌*◌, ◌<◌, ◌≤◌, ◌==◌, ◌&&◌, not, Bool, true, false, List, [], ◌∷◌, ◌++◌, fold, filter, map, if◌then◌else◌}
 use Rattle.jo_value.specs.declared.limits.TheConstants.{MOST_STORAGE, MOST_NEED}
 use Rattle.jo_model.specs.declared.call.Call.{Call}
 use Rattle.jo_model.specs.declared.call.Call.TheVariants as call
@@ -20,23 +20,34 @@ pub record Entry : Type 0 where
 abbrev pub History : Type 0
 History = List Entry
 
--- whether an answered call is a change of this heap, which is the one before it; a Put that is Done is one also where
--- the value was the same
+-- whether a reply refuses its call, which then does nothing
+abbrev pub is_refusal : Reply → Bool
+is_refusal (reply.Made o) = false
+is_refusal (reply.Found v) = false
+is_refusal (reply.Flag b) = false
+is_refusal (reply.Names names) = false
+is_refusal reply.Done = false
+is_refusal reply.TooManyNames = true
+is_refusal reply.ObjectsSpent = true
+is_refusal (reply.Spent spent) = true
+
+-- whether a call changes this heap where it is not refused; a Put does so also where the value was the same
+abbrev pub would_change : Heap → Call → Bool
+would_change heap call.New = true
+would_change heap (call.Get o key) = false
+would_change heap (call.Has o key) = false
+would_change heap (call.Names o) = false
+would_change heap (call.Put o key value) = true
+would_change heap (call.Delete o key) = has_property (object_of heap o) key
+would_change heap (call.Cas o key expected desired) = is_found_as (property (object_of heap o) key) expected
+
+-- whether an answered call is a change of this heap, which is the one before it
 abbrev pub is_change : Heap → Call → Reply → Bool
-is_change heap call.New (reply.Made o) = true
-is_change heap (call.Put o key value) reply.Done = true
-is_change heap (call.Delete o key) (reply.Flag b) = has_property (object_of heap o) key
-is_change heap (call.Cas o key expected desired) (reply.Found v) = is_found_as (property (object_of heap o) key) expected
-is_change heap _ _ = false
+is_change heap call answer = not (is_refusal answer) && would_change heap call
 
--- the new heap, unless too little storage was left: then the old one
-abbrev pub unless_spent : Reply → Heap → Heap → Heap
-unless_spent (reply.Spent spent) old new = old
-unless_spent _ old new = new
-
--- the heap after an entry; a call for which too little storage was left changes nothing
+-- the heap after an entry; a call that is refused changes nothing
 abbrev pub after_entry : Heap → Entry → Heap
-after_entry heap e = unless_spent e.reply heap (one heap e.pass e.call).0
+after_entry heap e = if is_refusal e.reply then heap else (one heap e.pass e.call).0
 
 -- the heap after a history
 abbrev pub heap_after : ℕ → History → Heap
@@ -50,9 +61,13 @@ changes_by pass heap (e ∷ w) =
 
 -- the calls that may be refused for want of storage
 abbrev pub MayTakeStorage : Call → Type 0
+MayTakeStorage call.New = ⊥
+MayTakeStorage (call.Get o key) = ⊥
+MayTakeStorage (call.Has o key) = ⊥
+MayTakeStorage (call.Names o) = ⊥
 MayTakeStorage (call.Put o key value) = Unit {0}
 MayTakeStorage (call.Delete o key) = Unit {0}
-MayTakeStorage _ = ⊥
+MayTakeStorage (call.Cas o key expected desired) = ⊥
 
 -- A refusal for want of storage is lawful where used and needed together are more than a pass has, the need is at most
 -- what one call takes, and used is at most that much for each change that the pass has made.

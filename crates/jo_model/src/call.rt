@@ -1,10 +1,10 @@
 // Calls on the heap, their replies, and how a script ends.
 use arrayvec::ArrayVec;
-use jo_value::{Key, NameId, ObjId, Value};
+use jo_value::{Key, MOST_NAMES, NameId, ObjId, Value};
 use std::marker::Model;
 
 /// A call of a script on the heap.
-#[derive(Clone, Copy, Debug, PartialEq, Eq)]
+#[derive(Clone, Copy)]
 pub enum Call {
     /// Makes an empty object.
     New,
@@ -43,7 +43,7 @@ pub enum Call {
 }
 
 /// The answer to a call.
-#[derive(Debug, Drop)]
+#[derive(Drop)]
 pub enum Reply {
     /// To `New`: the object that was made.
     Made(ObjId),
@@ -64,16 +64,16 @@ pub enum Reply {
 }
 
 /// How many words of storage a pass had used, and how many more a call needed.
-#[derive(Clone, Copy, Debug, PartialEq, Eq)]
+#[derive(Clone, Copy)]
 pub struct Spent {
     pub used: u32,
     pub need: u32,
 }
 
 /// At most 64 names, in order. Contracts see the list of them.
-#[derive(Debug, Drop)]
+#[derive(Drop)]
 pub struct NameList {
-    list: ArrayVec<NameId, 64>,
+    list: ArrayVec<NameId, MOST_NAMES>,
 }
 
 impl Model for NameList {

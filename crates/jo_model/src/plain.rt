@@ -12,7 +12,7 @@ use std::alloc::{AllocError, Global};
 use std::marker::Model;
 
 /// The heap of one thread, by the definitions. Contracts see the objects of each pass.
-#[derive(Debug, Drop)]
+#[derive(Drop)]
 pub struct PlainHeap {
     passes: Vec<PassObjects>,
 }

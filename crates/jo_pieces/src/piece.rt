@@ -3,15 +3,14 @@ ghost use Rattle.std.specs.Prelude.{◌≡◌, ◌+◌, ◌<◌, ◌≤◌, [], 
 ghost use Rattle.std.specs.Str.{IsCharBoundary};
 ghost use Rattle.jo_value.specs.declared.limits.TheConstants.{MOST_INPUT, MOST_SCRIPTS};
 ghost use Rattle.jo_lex.specs.Classes.{EndsWith};
-ghost use Rattle.jo_lex.specs.declared.refusal.ParseFault.TheVariants.{Memory};
 ghost use Rattle.jo_pieces.specs.Cuts.{AreWithin, IsCutFault, is_separator, lines_of, one_too_many, parts_of, piece_of, pieces_of};
 
 use jo_lex::{ParseFault, Refusal, RefusalKind};
 use jo_value::MOST_SCRIPTS;
-use std::alloc::Global;
+use std::alloc::{AllocError, Global};
 
 /// A script of a set, and how many bytes stand before it.
-#[derive(Clone, Copy, Debug)]
+#[derive(Clone, Copy)]
 pub struct Piece<'a> {
     pub start: u32,
     pub text: &'a str,
@@ -75,15 +74,12 @@ fn script<'a>(text: &str, from: &'a str, end: &str) -> Piece<'a>
 }
 
 // Adds a script to those before it.
-fn add<'a>(parts: &mut Vec<Piece<'a>>, part: Piece<'a>) -> Result<(), ParseFault>
+fn add<'a>(parts: &mut Vec<Piece<'a>>, part: Piece<'a>) -> Result<(), AllocError>
     ensures ok { OnOk result (parts_of parts.new.items ≡ parts_of parts.old.items ++ piece_of part.entry ∷ []) }
     ensures len { OnOk result (length parts.new.items ≡ length parts.old.items + 1) }
-    ensures err { IfErr result (λ fault. fault ≡ Memory) }
 {
-    match parts.push(part) {
-        Ok(()) => Ok(()),
-        Err(_) => Err(ParseFault::Memory),
-    }
+    parts.push(part)?;
+    Ok(())
 }
 
 // The refusal at the separator that ends this script.

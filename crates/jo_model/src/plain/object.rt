@@ -7,7 +7,7 @@ use std::alloc::{AllocError, Global};
 use std::marker::Model;
 
 /// An object of the slow heap. Contracts see its two lists of properties.
-#[derive(Debug, Drop)]
+#[derive(Drop)]
 pub struct PlainObject {
     names: Vec<(NameId, Value)>,
     elements: Vec<(u16, Value)>,

@@ -11,7 +11,7 @@ use Rattle.jo_judge.proofs.scopes.Scopes.+statements.Goals as goal
 pub block-returns-in_err-items-clause-judged : goal.block-returns-in_err-items-clause-judged
 block-returns-in_err-items-clause-judged t c =
     let scope = at_beginning (declared_in (items_list c.args.items.now)) in
-    let h = enters c.args.self.now c.enter.new.self _ scope c.in_ok-enter.ensures.ok c.in_ok-of_items.ensures.ok in
+    let h = enters c.args.self.now c.enter.new.self _ scope c.in_ok-enter.ensures c.in_ok-of_items.ensures in
     let w = judged_same (faults_of_items scope (all_of c.args.self.now) (items_list c.args.items.now)) _ (Err c.in_err-items.field-0.0)
     (ap answer_to (items-entered c.args.self.now c.enter.new.self scope c.args.items.now h)) c.in_err-items.ensures.judged in
     search rules
@@ -19,7 +19,7 @@ block-returns-in_err-items-clause-judged t c =
 pub block-returns-clause-judged : goal.block-returns-clause-judged
 block-returns-clause-judged t c =
     let scope = at_beginning (declared_in (items_list c.args.items.now)) in
-    let h = enters c.args.self.now c.enter.new.self _ scope c.in_ok-enter.ensures.ok c.in_ok-of_items.ensures.ok in
+    let h = enters c.args.self.now c.enter.new.self _ scope c.in_ok-enter.ensures c.in_ok-of_items.ensures in
     ap answer_to (items-entered c.args.self.now c.enter.new.self scope c.args.items.now h) ∙ c.in_ok-items.ensures.judged
 
 pub items-returns-in_err-item-clause-judged : goal.items-returns-in_err-item-clause-judged

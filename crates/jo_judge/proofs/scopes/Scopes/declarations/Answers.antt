@@ -11,7 +11,7 @@ pub returns-clause-judged : goal.returns-clause-judged
 returns-clause-judged c =
     let bindings = bindings_list c.args.bindings.now in
     let scope = at_beginning (names_of bindings) in
-    let h = enters c.args.self.now c.enter.new.self _ scope c.in_ok-enter.ensures.ok c.in_ok-of_bindings.ensures.ok in
+    let h = enters c.args.self.now c.enter.new.self _ scope c.in_ok-enter.ensures c.in_ok-of_bindings.ensures in
     judged_same (faults_of_bindings scope (all_of c.args.self.now) bindings) _ c.bindings.result
     (ap answer_to (bindings-entered c.args.self.now c.enter.new.self scope bindings h)) c.bindings.ensures.judged
 
@@ -19,5 +19,5 @@ pub returns-clause-entered : goal.returns-clause-entered
 returns-clause-entered c =
     let bindings = bindings_list c.args.bindings.now in
     let scope = at_beginning (names_of bindings) in
-    let h = enters c.args.self.now c.enter.new.self _ scope c.in_ok-enter.ensures.ok c.in_ok-of_bindings.ensures.ok in
+    let h = enters c.args.self.now c.enter.new.self _ scope c.in_ok-enter.ensures c.in_ok-of_bindings.ensures in
     on_ok c.bindings.result (head-ended c.args.self.now c.enter.new.self c.bindings.new.self bindings h) c.bindings.ensures.moved
