@@ -1,10 +1,10 @@
 -- What the top call says.
-use Rattle.std.specs.Prelude.{◌≡◌, ◌⊎◌, ℕ, ◌<◌, ◌≤◌, Bool, true, false, List, [], ◌∷◌, codes, length, Option, string_bytes, String}
+use Rattle.std.specs.Prelude.{◌≡◌, ◌⊎◌, ℕ, ◌<◌, ◌≤◌, Bool, true, false, List, [], ◌∷◌, codes, length, Option, string_bytes, String, ⊤}
 use Rattle.std.specs.Str.{bytes_eq}
 use Rattle.std.specs.declared.alloc.Global.{Global}
 use Rattle.std.specs.Io.KnownBytes.{Consumes, IsAtEnd, Appends}
 use Rattle.jo_value.specs.declared.limits.TheConstants.{MOST_INPUT}
-use Rattle.jo_text.specs.Bytes.{AppendsPrefix}
+use Rattle.jo_text.specs.Bytes.{AppendsPart}
 use Rattle.jo_answer.specs.declared.due.Verdict.{Verdict}
 use Rattle.jo_answer.specs.declared.due.Verdict.TheVariants as verdict
 use Rattle.jo_answer.specs.Answers.{IsDue, IsRunnable, IsRefusedInput}
@@ -35,7 +35,7 @@ is_run _ = false
 abbrev pub usage_line : List ℕ
 usage_line = codes "usage: jsobj run [--stats] [--turns T] | make N | run-made N\n"
 
--- The input was read, to its end unless it is too large; this is said of it, and the text is due for it.
+-- the input was read, to its end unless it is too large; this is said of it, and the text is due for it
 pub record IsAnswer (said : Verdict) (left left' : Option (List ℕ)) (text : List ℕ) : Type 0 where
   pub bytes : List ℕ
   pub read : Consumes left left' bytes
@@ -57,16 +57,20 @@ IsDueText words left left' text =
 abbrev pub Writes : (List ℕ → Type 0) → Option (List ℕ) → Option (List ℕ) → Type 0
 Writes P held held' = (text : List ℕ) × P text × Appends held held' text
 
--- a sink gained a prefix of a text of which this holds
-abbrev pub WritesPrefix : (List ℕ → Type 0) → Option (List ℕ) → Option (List ℕ) → Type 0
-WritesPrefix P held held' = (text : List ℕ) × P text × AppendsPrefix held held' text
+-- a sink gained the beginning of a text of which this holds, and not all of it
+abbrev pub WritesPart : (List ℕ → Type 0) → Option (List ℕ) → Option (List ℕ) → Type 0
+WritesPart P held held' = (text : List ℕ) × P text × AppendsPart held held' text
 
-abbrev pub IsOrMemory : Status → Status → Type 0
-IsOrMemory s result = (result ≡ s) ⊎ (result ≡ status.Memory)
+-- this is answered, or a fault, or want of memory
+abbrev pub IsUnlessFault : Status → Status → Type 0
+IsUnlessFault due status.ReadFault = ⊤
+IsUnlessFault due status.WriteFault = ⊤
+IsUnlessFault due status.Memory = ⊤
+IsUnlessFault due result = result ≡ due
 
--- What is answered to an input, where nothing fails: want of memory aside, it is run where it is a set that is built, refused where it is
--- refused or not built, and too large where it has too many bytes.
+-- What is answered to an input, faults and want of memory aside: it is run where it is a set that is built, refused
+-- where it is refused or not built, and too large where it has too many bytes.
 pub record IsJudged (result : Status) (bytes : List ℕ) : Type 0 where
-  pub run : IsRunnable bytes → IsOrMemory status.Done result
-  pub refused : length bytes ≤ MOST_INPUT → IsRefusedInput bytes → IsOrMemory status.Refused result
-  pub large : MOST_INPUT < length bytes → IsOrMemory status.TooLarge result
+  pub run : IsRunnable bytes → IsUnlessFault status.Done result
+  pub refused : length bytes ≤ MOST_INPUT → IsRefusedInput bytes → IsUnlessFault status.Refused result
+  pub large : MOST_INPUT < length bytes → IsUnlessFault status.TooLarge result

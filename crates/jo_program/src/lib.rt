@@ -1,8 +1,11 @@
-//! The program as a library: the top call, from words and an input to a status and a text.
+//! The program as a library: the top call, from words and an input to a status and a text, and what
+//! a process makes of it.
 #![tactic(auto)]
 
+mod process;
 mod status;
 mod top;
 
+pub use process::start;
 pub use status::Status;
 pub use top::run;

@@ -1,8 +1,11 @@
 // How a run ended.
 ghost use Rattle.std.specs.Prelude.{◌≡◌};
+ghost use Rattle.std.specs.Process.{exit_status};
+
+use std::process::ExitCode;
 
 /// How a run ended.
-#[derive(Clone, Copy, Debug, PartialEq, Eq)]
+#[derive(Clone, Copy, Debug, PartialEq)]
 pub enum Status {
     /// All is well: the output text was written.
     Done,
@@ -14,7 +17,7 @@ pub enum Status {
     TooLarge,
     /// A read failed: nothing was written.
     ReadFault,
-    /// A write failed: a prefix of the text was written.
+    /// A write failed: the beginning of the text was written, and not all of it.
     WriteFault,
     /// No memory was left: nothing was written.
     Memory,
@@ -23,11 +26,11 @@ pub enum Status {
 impl Status {
     ghost use Rattle.jo_program.specs.Run.{status_number};
 
-    /// The exit status of the program.
-    pub fn number(self) -> u8
-        ensures { result ≡ status_number self }
+    /// The exit code of the program.
+    pub fn exit_code(self) -> ExitCode
+        ensures { exit_status result ≡ status_number self }
     {
-        match self {
+        ExitCode::from(match self {
             Status::Done => 0,
             Status::Usage => 1,
             Status::Refused => 2,
@@ -35,6 +38,6 @@ impl Status {
             Status::ReadFault => 4,
             Status::WriteFault => 5,
             Status::Memory => 7,
-        }
+        })
     }
 }

@@ -1,16 +1,16 @@
 // The top call.
-ghost use Rattle.std.specs.Prelude.{◌≡◌, ◌⊎◌, ◌+◌, ◌≤◌, ◌<◌, true, false, length, IfSome};
+ghost use Rattle.std.specs.Prelude.{◌≡◌, ◌≢◌, ◌⊎◌, ◌+◌, ◌<◌, true, false, length, IfSome};
 ghost use Rattle.std.specs.Io.KnownBytes.{Appends};
 ghost use Rattle.jo_value.specs.declared.limits.TheConstants.{MOST_INPUT};
-ghost use Rattle.jo_io.specs.Causes.{Rose};
-ghost use Rattle.jo_text.specs.Bytes.{ConsumesAtMost, AppendsPrefix};
+ghost use Rattle.jo_io.specs.Causes.{Counts};
+ghost use Rattle.jo_text.specs.Bytes.{ConsumesAtMost, AppendsPart};
 ghost use Rattle.jo_answer.specs.declared.due.Verdict.TheVariants as verdict;
 ghost use Rattle.jo_answer.specs.Answers.{IsRefusedInput};
-ghost use Rattle.jo_program.specs.Run.{is_run, status_of, IsAnswer, IsJudged, IsDueText, IsUsage, Writes, WritesPrefix};
+ghost use Rattle.jo_program.specs.Run.{is_run, status_of, IsAnswer, IsJudged, IsDueText, IsUsage, Writes, WritesPart};
 
 use crate::Status;
 use jo_answer::{Verdict, answer_to};
-use jo_io::{Sink, Source};
+use jo_io::{Failed, Sink, Source};
 use jo_text::{ReadError, read_all, write_all};
 use jo_value::MOST_INPUT;
 use std::alloc::Global;
@@ -18,16 +18,6 @@ use std::sync::Wait;
 use std::thread::Threads;
 
 const USAGE_LINE: &[u8] = b"usage: jsobj run [--stats] [--turns T] | make N | run-made N\n";
-
-fn status_of(verdict: Verdict) -> Status
-    ensures { result ≡ status_of verdict }
-{
-    match verdict {
-        Verdict::Done => Status::Done,
-        Verdict::Refused => Status::Refused,
-        Verdict::TooLarge => Status::TooLarge,
-    }
-}
 
 /// All that the program does: reads a set of scripts from the source, runs it, and writes its output
 /// text to the sink.
@@ -53,38 +43,30 @@ pub fn run<R: Threads + Wait + Sync, S: Source, K: Sink>(
         (K.held sink.old) (K.held sink.new) }
     ensures usage { result ≡ Status.Usage
         → Writes (IsUsage words.now) (K.held sink.old) (K.held sink.new) }
-    ensures other_words { is_run words.now ≡ false
-        → (result ≡ Status.Usage) ⊎ (result ≡ Status.WriteFault) }
 
-    // An input is refused only where it is, as a whole, no set that is run so far, and too large
-    // only where it has too many bytes.
+    // The input alone decides which of them it is.
+    ensures judged { is_run words.now ≡ true → IfSome (S.left source.old) (IsJudged result) }
     ensures refused_input { result ≡ Status.Refused → IfSome (S.left source.old) IsRefusedInput }
     ensures large_input { result ≡ Status.TooLarge
         → IfSome (S.left source.old) (λ bytes. MOST_INPUT < length bytes) }
+    ensures other_words { is_run words.now ≡ false
+        → (result ≡ Status.Usage) ⊎ (result ≡ Status.WriteFault) }
 
-    ensures read_fault { result ≡ Status.ReadFault → Rose (S.faults source.old) (S.faults source.new) }
-    ensures write_fault { result ≡ Status.WriteFault → Rose (K.faults sink.old) (K.faults sink.new) }
-    ensures prefix { result ≡ Status.WriteFault
-        → WritesPrefix (IsDueText words.now (S.left source.old) (S.left source.new))
+    // A fault is answered where it comes, and nothing else counts one.
+    ensures read_fault { Counts (result ≡ Status.ReadFault)
+        (S.faults source.old) (S.faults source.new) }
+    ensures write_fault { Counts (result ≡ Status.WriteFault)
+        (K.faults sink.old) (K.faults sink.new) }
+    ensures part { result ≡ Status.WriteFault
+        → WritesPart (IsDueText words.now (S.left source.old) (S.left source.new))
         (K.held sink.old) (K.held sink.new) }
     ensures unwritten { (result ≡ Status.ReadFault) ⊎ (result ≡ Status.Memory)
         → (is_run words.now ≡ true) × (sink.new ≡ sink.old) }
 
     ensures unread { is_run words.now ≡ false → source.new ≡ source.old }
     ensures bound { ConsumesAtMost (S.left source.old) (S.left source.new) (MOST_INPUT + 1) }
-    ensures later { (S.faults source.old ≤ S.faults source.new)
-        × (K.faults sink.old ≤ K.faults sink.new) }
-    // Where nothing fails, accepted words give one of four answers.
-    ensures complete { is_run words.now ≡ true
-        → (Rose (S.faults source.old) (S.faults source.new) → ⊥)
-        → (Rose (K.faults sink.old) (K.faults sink.new) → ⊥)
-        → (result ≡ Status.Done)
-        ⊎ ((result ≡ Status.Refused) ⊎ ((result ≡ Status.TooLarge) ⊎ (result ≡ Status.Memory))) }
-    // Which of them it is the input decides, memory aside.
-    ensures judged { is_run words.now ≡ true
-        → (Rose (S.faults source.old) (S.faults source.new) → ⊥)
-        → (Rose (K.faults sink.old) (K.faults sink.new) → ⊥)
-        → IfSome (S.left source.old) (IsJudged result) }
+    ensures early { result ≡ Status.ReadFault
+        → ConsumesAtMost (S.left source.old) (S.left source.new) MOST_INPUT }
 {
     if !is_run(words) {
         return finish(sink, USAGE_LINE, Status::Usage);
@@ -109,16 +91,28 @@ fn is_run(words: &[String]) -> bool
     }
 }
 
+fn status_of(verdict: Verdict) -> Status
+    ensures { result ≡ status_of verdict }
+{
+    match verdict {
+        Verdict::Done => Status::Done,
+        Verdict::Refused => Status::Refused,
+        Verdict::TooLarge => Status::TooLarge,
+    }
+}
+
 // Writes a text and answers the status, or the fault of writing.
 fn finish<K: Sink>(sink: &mut K, text: &[u8], status: Status) -> Status
+    requires { status ≢ Status.WriteFault }
     ensures answer { (result ≡ status) ⊎ (result ≡ Status.WriteFault) }
-    ensures written { (result ≡ Status.WriteFault → ⊥) → Appends (K.held sink.old) (K.held sink.new) text.now }
-    ensures prefix { AppendsPrefix (K.held sink.old) (K.held sink.new) text.now }
-    ensures later { K.faults sink.old ≤ K.faults sink.new }
-    ensures cause { result ≡ Status.WriteFault → (status ≡ Status.WriteFault → ⊥) → Rose (K.faults sink.old) (K.faults sink.new) }
+    ensures written { result ≢ Status.WriteFault
+        → Appends (K.held sink.old) (K.held sink.new) text.now }
+    ensures part { result ≡ Status.WriteFault
+        → AppendsPart (K.held sink.old) (K.held sink.new) text.now }
+    ensures cause { Counts (result ≡ Status.WriteFault) (K.faults sink.old) (K.faults sink.new) }
 {
     match write_all(sink, text) {
         Ok(()) => status,
-        Err(_) => Status::WriteFault,
+        Err(Failed) => Status::WriteFault,
     }
 }

@@ -15,6 +15,6 @@ pub record ReadsMore (old new : Option (List ℕ)) (room n : ℕ) (before after 
   pub within : n ≤ room
   pub ended : n ≡ 0 → 0 < room → IsAtEnd new
 
--- known bytes grow by the first of these, perhaps by all or by none
-abbrev pub AppendsPrefix : Option (List ℕ) → Option (List ℕ) → List ℕ → Type 0
-AppendsPrefix old new bytes = (n : ℕ) × Appends old new (take n bytes)
+-- known bytes grow by the first of these, perhaps by none and never by all
+abbrev pub AppendsPart : Option (List ℕ) → Option (List ℕ) → List ℕ → Type 0
+AppendsPart old new bytes = (n : ℕ) × Appends old new (take n bytes) × (n < length bytes)

@@ -1,14 +1,15 @@
 // Reading an input to its end.
-ghost use Rattle.std.specs.Prelude.{◌≡◌, ◌≤◌, ◌<◌, IfOk, Err, length};
-ghost use Rattle.std.specs.Io.KnownBytes.{Consumes, IsAtEnd};
-ghost use Rattle.jo_io.specs.Causes.{Rose};
+ghost use Rattle.std.specs.Prelude.{◌≡◌, ◌-◌, ◌≤◌, ◌<◌, IfOk, IsErrOf, length};
+ghost use Rattle.std.specs.Io.KnownBytes.{Consumes, IsAtEnd, Keeps};
+ghost use Rattle.jo_io.specs.Causes.{Counts};
 ghost use Rattle.jo_text.specs.Bytes.{ConsumesAtMost, ReadsMore};
+ghost use Rattle.jo_text.specs.declared.reading.ReadError.TheVariants as read_error;
 
 use jo_io::{Failed, Source};
-use std::alloc::Global;
+use std::alloc::{AllocError, Global};
 
 /// Why an input was not read.
-#[derive(Clone, Copy, Debug, PartialEq, Eq)]
+#[derive(Clone, Copy, Debug, PartialEq)]
 pub enum ReadError {
     /// No memory was left for its bytes.
     Memory,
@@ -16,12 +17,28 @@ pub enum ReadError {
     Failed,
 }
 
+impl From<AllocError> for ReadError {
+    ghost from_gives = { λ _ error. error ≡ read_error.Memory };
+
+    fn from(_error: AllocError) -> ReadError {
+        ReadError::Memory
+    }
+}
+
+impl From<Failed> for ReadError {
+    ghost from_gives = { λ _ error. error ≡ read_error.Failed };
+
+    fn from(_error: Failed) -> ReadError {
+        ReadError::Failed
+    }
+}
+
 // The most bytes of one read.
 const MOST_READ: usize = 512;
 
 /// All bytes that are left, or the first `limit` of them where there are more.
 ///
-/// After an `Err` the source has lost what was read, at most `limit` bytes.
+/// After an `Err` the source has lost what was read: at most `limit` bytes, and fewer after a failed read.
 pub fn read_all<S: Source>(
     alloc: Global,
     limit: usize,
@@ -31,8 +48,10 @@ pub fn read_all<S: Source>(
     ensures whole { IfOk result (λ v. length v.items < limit → IsAtEnd (S.left source.new)) }
     ensures most { IfOk result (λ v. length v.items ≤ limit) }
     ensures bound { ConsumesAtMost (S.left source.old) (S.left source.new) limit }
-    ensures cause { result ≡ Err ReadError.Failed → Rose (S.faults source.old) (S.faults source.new) }
-    ensures later { S.faults source.old ≤ S.faults source.new }
+    ensures failed { IsErrOf result ReadError.Failed
+        → ConsumesAtMost (S.left source.old) (S.left source.new) (limit - 1) }
+    ensures cause { Counts (IsErrOf result ReadError.Failed)
+        (S.faults source.old) (S.faults source.new) }
 {
     let mut bytes = Vec::new(alloc);
     let mut piece = [0u8; MOST_READ];
@@ -54,16 +73,12 @@ fn read_some<S: Source>(
     ensures read { IfOk result (λ n. ReadsMore (S.left source.old) (S.left source.new)
         (length piece.old) n bytes.old.items bytes.new.items) }
     ensures bound { ConsumesAtMost (S.left source.old) (S.left source.new) (length piece.old) }
-    ensures cause { result ≡ Err ReadError.Failed → Rose (S.faults source.old) (S.faults source.new) }
-    ensures later { S.faults source.old ≤ S.faults source.new }
+    ensures failed { IsErrOf result ReadError.Failed
+        → Keeps (S.left source.old) (S.left source.new) }
+    ensures cause { Counts (IsErrOf result ReadError.Failed)
+        (S.faults source.old) (S.faults source.new) }
 {
-    match source.read(piece) {
-        Ok(count) => {
-            if bytes.extend_from_slice(&piece[..count]).is_err() {
-                return Err(ReadError::Memory);
-            }
-            Ok(count)
-        }
-        Err(Failed) => Err(ReadError::Failed),
-    }
+    let count = source.read(piece)?;
+    bytes.extend_from_slice(&piece[..count])?;
+    Ok(count)
 }

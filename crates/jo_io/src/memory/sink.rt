@@ -43,7 +43,7 @@ impl MemorySink {
     /// a call, and fails at the calls whose numbers, counted from 1, are in `failing`.
     pub fn new(room: Vec<u8>, at_most: usize, failing: Vec<u64>) -> MemorySink
         requires { 0 < at_most }
-        ensures { result ≡ record {
+        ensures state { result ≡ record {
           bytes = room.items;
           at_most = at_most;
           failing = failing.items;
@@ -52,6 +52,10 @@ impl MemorySink {
           faults = 0;
           refused = 0;
         } }
+
+        // So does any code that is generic in a sink see it.
+        ensures held { ⟦<MemorySink as Sink>⟧.held result ≡ Some room.items }
+        ensures faults { ⟦<MemorySink as Sink>⟧.faults result ≡ 0 }
     {
         MemorySink {
             bytes: room,
@@ -65,7 +69,8 @@ impl MemorySink {
 
     /// What it holds: the bytes of `room`, and then those taken.
     pub fn bytes(&self) -> &[u8]
-        ensures { result.now ≡ self.now.bytes }
+        ensures bytes { result.now ≡ self.now.bytes }
+        ensures held { ⟦<MemorySink as Sink>⟧.held self.now ≡ Some result.now }
     {
         &self.bytes
     }

@@ -41,13 +41,17 @@ impl MemorySource {
     /// counted from 1, are in `failing`.
     pub fn new(bytes: Vec<u8>, at_most: usize, failing: Vec<u64>) -> MemorySource
         requires { 0 < at_most }
-        ensures { result ≡ record {
+        ensures state { result ≡ record {
           bytes = bytes.items;
           at_most = at_most;
           failing = failing.items;
           calls = 0;
           faults = 0;
         } }
+
+        // So does any code that is generic in a source see it.
+        ensures left { ⟦<MemorySource as Source>⟧.left result ≡ Some bytes.items }
+        ensures faults { ⟦<MemorySource as Source>⟧.faults result ≡ 0 }
     {
         MemorySource {
             bytes,

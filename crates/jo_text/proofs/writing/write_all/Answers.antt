@@ -1,4 +1,4 @@
-use Rattle.std.proofs.Common.{length, ap, arith, length-drop}
+use Rattle.std.proofs.Common.{length, ap, ◌∙◌, arith, length-drop}
 use Rattle.std.proofs.Math.Seq.{take-add}
 use Rattle.std.proofs.lemmas.List.{take_rest}
 use Rattle.std.proofs.KnownBytes.{Appends-trans}
@@ -11,5 +11,5 @@ loop-done-preserved g c =
     record {
       within = omega (arith, c.in_ok-done.ensures.bound, length-drop c.loop-done.done bytes, ap length all);
       written = rw (take-add c.loop-done.done c.in_ok-done.field-0 bytes) (Appends-trans _ _ _ _ _ c.loop-done.invariant.written (rw all at c.in_ok-done.ensures.bytes));
-      later = omega (arith, c.write.ensures.cause.later, c.loop-done.invariant.later);
+      same = c.in_ok-done.ensures.cause.same ∙ c.loop-done.invariant.same;
     }
