@@ -1,7 +1,7 @@
 pub mod Lists
 pub mod Rooms
+pub mod Parts
 pub mod Targets
 pub mod Rules
-pub mod Given
 pub mod ScriptRules
 pub mod Exactly

@@ -11,6 +11,7 @@ use Rattle.jo_grammar.specs.Read.{Reading, open_at, peek, next}
 use Rattle.jo_grammar.specs.ReadStatements.{read_statement, statement_at, with_item, item_at, item_then, script_from}
 use Rattle.jo_grammar.specs.Refusals.{unexpected}
 use Rattle.jo_syntax.specs.ScriptOutcomes.{within, item_view}
+use Rattle.jo_syntax.proofs.Parts.{else-in-parts}
 use Rattle.jo_syntax.proofs.Rooms.{open-less}
 
 -- ---- how deep
@@ -60,4 +61,4 @@ script-turn room n found (c ∷ r) h = refl
 
 pub ruleset script_turns = (script-done, script-over, script-turn)
 
-pub ruleset script_reading = (shapes, script_shapes, open-within, open-less, statement-at)
+pub ruleset script_reading = (shapes, script_shapes, else-in-parts, open-within, open-less, statement-at)

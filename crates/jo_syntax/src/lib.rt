@@ -1,9 +1,8 @@
-//! From the tokens of a script, or of an expression, to its tree.
+//! From the tokens of a script to its tree.
 #![tactic(auto)]
 
 mod code;
 mod cursor;
-mod expression;
 mod operator;
 mod parser;
 mod read_script;
@@ -13,5 +12,4 @@ mod shape;
 mod stop;
 mod terminals;
 
-pub use expression::parse_expression;
 pub use read_script::parse_script;

@@ -44,9 +44,6 @@ pub fn parse_script(alloc: Global, tokens: &[Token], texts: &Texts) -> Result<Sc
         → IsRefused IsScript MOST_OPEN fault (terminals_of texts.now tokens.now) rest
         → Refuses (refusal_of tokens.now (terminals_of texts.now tokens.now) fault rest) result }
 {
-    let terminals = match terminals(alloc, tokens, texts) {
-        Ok(terminals) => terminals,
-        Err(_) => return Err(ParseFault::Memory),
-    };
-    read(alloc, tokens, terminals.as_slice())
+    let terminals = terminals(alloc, tokens, texts)?;
+    read(alloc, tokens, &terminals)
 }

@@ -9,13 +9,18 @@ use std::alloc::{AllocError, Global};
 
 /// A primary expression with what is accessed of it.
 #[tactic(auto, using(crate::proofs::Rules::trees))]
-pub(crate) fn accessed(base: Primary, accesses: Items<Access>) -> Postfix
-    ensures { postfix_tree result ≡ spec.member_of (primary_tree base) (accesses_list accesses) }
+pub(crate) fn accessed(
+    alloc: Global,
+    base: Primary,
+    accesses: Items<Access>,
+) -> Result<Postfix, AllocError>
+    ensures { IfOk result (λ postfix. postfix_tree postfix ≡ spec.member_of (primary_tree base) (accesses_list accesses)) }
 {
     if accesses.is_empty() {
-        return Postfix::Primary(base);
+        return Ok(Postfix::Primary(base));
     }
-    Postfix::Member(Member { base, accesses })
+    let member = Member { base, accesses };
+    Ok(Postfix::Member(Boxed::new(alloc, member)?))
 }
 
 /// Operands that operators of a level join, or the first where there is no other.
@@ -31,78 +36,34 @@ pub(crate) fn joined(
     if links.is_empty() {
         return Ok(first);
     }
-    let first = Boxed::new(alloc, first)?;
-    Ok(Chain::Binary(Binary {
+    let binary = Binary {
         level,
         first,
         links,
-    }))
-}
-
-#[tactic(auto, using(crate::proofs::Rules::trees))]
-fn primary_target(primary: Primary) -> Result<Target, Primary>
-    ensures ok { IfOk result (λ target. (target_tree target ≡ primary_tree primary) × (spec.is_target (primary_tree primary) ≡ true)) }
-    ensures err { IfErr result (λ same. (same ≡ primary) × (spec.is_target (primary_tree primary) ≡ false)) }
-{
-    match primary {
-        Primary::Ident(ident) => Ok(Target::Ident(ident)),
-        primary => Err(primary),
-    }
-}
-
-#[tactic(auto, using(crate::proofs::Rules::trees))]
-fn postfix_target(postfix: Postfix) -> Result<Target, Postfix>
-    ensures ok { IfOk result (λ target. (target_tree target ≡ postfix_tree postfix) × (spec.is_target (postfix_tree postfix) ≡ true)) }
-    ensures err { IfErr result (λ same. (same ≡ postfix) × (spec.is_target (postfix_tree postfix) ≡ false)) }
-{
-    match postfix {
-        Postfix::Member(member) => Ok(Target::Member(member)),
-        Postfix::Primary(primary) => match primary_target(primary) {
-            Ok(target) => Ok(target),
-            Err(primary) => Err(Postfix::Primary(primary)),
-        },
-    }
-}
-
-#[tactic(auto, using(crate::proofs::Rules::trees))]
-fn unary_target(unary: Unary) -> Result<Target, Unary>
-    ensures ok { IfOk result (λ target. (target_tree target ≡ unary_tree unary) × (spec.is_target (unary_tree unary) ≡ true)) }
-    ensures err { IfErr result (λ same. (same ≡ unary) × (spec.is_target (unary_tree unary) ≡ false)) }
-{
-    match unary {
-        Unary::Postfix(postfix) => match postfix_target(postfix) {
-            Ok(target) => Ok(target),
-            Err(postfix) => Err(Unary::Postfix(postfix)),
-        },
-        unary => Err(unary),
-    }
-}
-
-#[tactic(auto, using(crate::proofs::Rules::trees))]
-fn chain_target(chain: Chain) -> Result<Target, Chain>
-    ensures ok { IfOk result (λ target. (target_tree target ≡ chain_tree chain) × (spec.is_target (chain_tree chain) ≡ true)) }
-    ensures err { IfErr result (λ same. (same ≡ chain) × (spec.is_target (chain_tree chain) ≡ false)) }
-{
-    match chain {
-        Chain::Unary(unary) => match unary_target(unary) {
-            Ok(target) => Ok(target),
-            Err(unary) => Err(Chain::Unary(unary)),
-        },
-        Chain::Binary(binary) => Err(Chain::Binary(binary)),
-    }
+    };
+    Ok(Chain::Binary(Boxed::new(alloc, binary)?))
 }
 
 /// The expression as a target, or as it was where it is none.
-#[tactic(auto, using(crate::proofs::Rules::trees))]
+#[tactic(auto, using(crate::proofs::Rules::targets))]
 pub(crate) fn target_of(condition: Cond) -> Result<Target, Cond>
     ensures ok { IfOk result (λ target. (target_tree target ≡ cond_tree condition) × (spec.is_target (cond_tree condition) ≡ true)) }
     ensures err { IfErr result (λ same. (same ≡ condition) × (spec.is_target (cond_tree condition) ≡ false)) }
 {
-    match condition {
-        Cond::Chain(chain) => match chain_target(chain) {
-            Ok(target) => Ok(target),
-            Err(chain) => Err(Cond::Chain(chain)),
+    let Cond::Chain(chain) = condition else {
+        return Err(condition);
+    };
+    let Chain::Unary(unary) = chain else {
+        return Err(Cond::Chain(chain));
+    };
+    let Unary::Postfix(postfix) = unary else {
+        return Err(Cond::Chain(Chain::Unary(unary)));
+    };
+    match postfix {
+        Postfix::Member(member) => Ok(Target::Member(member)),
+        Postfix::Primary(primary) => match primary {
+            Primary::Ident(ident) => Ok(Target::Ident(ident)),
+            other => Err(Cond::Chain(Chain::Unary(Unary::Postfix(Postfix::Primary(other))))),
         },
-        Cond::Choice(choice) => Err(Cond::Choice(choice)),
     }
 }

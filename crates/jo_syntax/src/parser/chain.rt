@@ -86,7 +86,7 @@ impl<'a> Parser<'a> {
 
     #[cycle(parser)]
     #[tactic(auto, using(crate::proofs::Rules::reading), unfolding(jo_grammar::specs::Read::only_member))]
-    fn member(&mut self, room: u8) -> Result<Member, Stop>
+    fn member(&mut self, room: u8) -> Result<Boxed<Member>, Stop>
         ensures { Reads member_tree (spec.read room true 10 self.old.tokens) result self.new.tokens }
     {
         match self.postfix(room)? {

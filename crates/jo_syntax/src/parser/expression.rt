@@ -1,15 +1,15 @@
 // Expressions, with assignments and choices.
 ghost use Rattle.jo_grammar.specs.Read as spec;
 ghost use Rattle.jo_grammar.specs.Read.{under};
-ghost use Rattle.jo_syntax.specs.Outcomes.{Reads, assigned};
-ghost use Rattle.jo_tree.specs.Views.{assign_tree, chain_tree, choice_tree, cond_tree, expr_tree, target_tree};
+ghost use Rattle.jo_syntax.specs.Outcomes.{Reads, assigned, choice_trees, choices};
+ghost use Rattle.jo_tree.specs.Views.{assign_tree, cond_tree, expr_tree, target_tree};
 
 use crate::operator::{assign_of, rank};
 use crate::parser::Parser;
 use crate::shape::target_of;
 use crate::stop::Stop;
 use jo_lex::Punct;
-use jo_tree::{Assign, Chain, Choice, Cond, Expr, Target};
+use jo_tree::{Assign, Choice, Cond, Expr, Target};
 use sqlite_items::Boxed;
 
 /// The rank of an assignment.
@@ -57,17 +57,18 @@ impl<'a> Parser<'a> {
     /// The rest of an assignment, from its operator on.
     #[cycle(parser)]
     #[tactic(auto, using(crate::proofs::Rules::reading))]
-    fn assignment(&mut self, room: u8, ins: bool, target: Target) -> Result<Assign, Stop>
+    fn assignment(&mut self, room: u8, ins: bool, target: Target) -> Result<Boxed<Assign>, Stop>
         ensures { Reads assign_tree (assigned room (under room) ins (target_tree target) self.old.tokens) result self.new.tokens }
     {
         let operator = assign_of(self.tokens.peek());
         let inner = self.tokens.open(room)?;
         let value = self.nested(inner, ins)?;
-        Ok(Assign {
+        let assign = Assign {
             target,
             operator,
             value,
-        })
+        };
+        Ok(Boxed::new(self.alloc, assign)?)
     }
 
     #[cycle(parser)]
@@ -79,24 +80,25 @@ impl<'a> Parser<'a> {
         if !self.tokens.sees(Punct::Question) {
             return Ok(Cond::Chain(condition));
         }
-        let condition = Boxed::new(self.alloc, condition)?;
-        let inner = self.tokens.open(room)?;
-        Ok(Cond::Choice(self.choice(inner, ins, condition)?))
-    }
-
-    /// The rest of a choice behind its question mark.
-    #[cycle(parser)]
-    #[tactic(auto, using(crate::proofs::Rules::reading), unfolding(jo_grammar::specs::Read::choice))]
-    fn choice(&mut self, inner: u8, ins: bool, condition: Boxed<Chain>) -> Result<Choice, Stop>
-        ensures { Reads choice_tree (spec.choice (spec.read inner) ins (chain_tree condition) self.old.tokens) result self.new.tokens }
-    {
-        let then = self.nested(inner, ins)?;
-        self.tokens.expect(Punct::Colon)?;
-        let otherwise = self.nested(inner, ins)?;
-        Ok(Choice {
+        let (then, otherwise) = self.choices(room, ins)?;
+        let choice = Choice {
             condition,
             then,
             otherwise,
-        })
+        };
+        Ok(Cond::Choice(Boxed::new(self.alloc, choice)?))
+    }
+
+    /// The two expressions of a choice, from its question mark on.
+    #[cycle(parser)]
+    #[tactic(auto, using(crate::proofs::Rules::reading))]
+    fn choices(&mut self, room: u8, ins: bool) -> Result<(Boxed<Expr>, Boxed<Expr>), Stop>
+        ensures { Reads choice_trees (choices room (under room) ins self.old.tokens) result self.new.tokens }
+    {
+        let inner = self.tokens.open(room)?;
+        let then = self.nested(inner, ins)?;
+        self.tokens.expect(Punct::Colon)?;
+        let otherwise = self.nested(inner, ins)?;
+        Ok((then, otherwise))
     }
 }

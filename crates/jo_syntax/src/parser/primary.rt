@@ -10,6 +10,7 @@ use crate::stop::Stop;
 use jo_grammar::Terminal;
 use jo_lex::Punct;
 use jo_tree::{Cas, Keyword, Primary};
+use sqlite_items::Boxed;
 
 impl<'a> Parser<'a> {
     #[cycle(parser)]
@@ -62,7 +63,8 @@ impl<'a> Parser<'a> {
     {
         self.tokens.advance();
         let inner = self.tokens.enter(Punct::OpenParen, room)?;
-        Ok(Primary::Cas(self.arguments(inner)?))
+        let arguments = self.arguments(inner)?;
+        Ok(Primary::Cas(Boxed::new(self.alloc, arguments)?))
     }
 
     /// The arguments of `cas` behind their bracket.
@@ -95,7 +97,8 @@ impl<'a> Parser<'a> {
             }
             Punct::OpenBrace => {
                 let inner = self.tokens.open(room)?;
-                Ok(Primary::Object(self.object(inner)?))
+                let object = self.object(inner)?;
+                Ok(Primary::Object(Boxed::new(self.alloc, object)?))
             }
             _ => Err(Stop::Unexpected),
         }

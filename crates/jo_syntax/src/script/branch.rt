@@ -2,13 +2,13 @@
 ghost use Rattle.jo_grammar.specs.ReadStatements as spec;
 ghost use Rattle.jo_grammar.specs.ReadStatements.{read_statement};
 ghost use Rattle.jo_syntax.specs.Outcomes.{Reads};
-ghost use Rattle.jo_tree.specs.ScriptViews.{statement_tree};
-ghost use Rattle.jo_tree.specs.Views.{expr_tree};
+ghost use Rattle.jo_syntax.specs.ScriptOutcomes.{else_at};
+ghost use Rattle.jo_tree.specs.ScriptViews.{optional_statement, statement_tree};
 
 use crate::parser::Parser;
 use crate::stop::Stop;
 use jo_lex::Punct;
-use jo_tree::{Expr, For, If, Keyword, Statement, While};
+use jo_tree::{For, If, Keyword, Statement, While};
 use sqlite_items::Boxed;
 
 impl<'a> Parser<'a> {
@@ -20,32 +20,26 @@ impl<'a> Parser<'a> {
     {
         let condition = self.in_brackets(room)?;
         let then = self.statement(room, loops)?;
-        self.otherwise(room, loops, condition, then)
-    }
-
-    /// The rest of an `if` behind its first statement. An `else` belongs to the nearest `if`.
-    #[cycle(statement)]
-    #[tactic(auto, using(crate::proofs::ScriptRules::script_reading), unfolding(jo_grammar::specs::ReadStatements::else_after))]
-    fn otherwise(
-        &mut self,
-        room: u8,
-        loops: bool,
-        condition: Boxed<Expr>,
-        then: Statement,
-    ) -> Result<Statement, Stop>
-        ensures { Reads statement_tree (spec.else_after (read_statement room) loops (expr_tree condition) (statement_tree then) self.old.tokens) result self.new.tokens }
-    {
-        let mut otherwise = None;
-        if self.tokens.sees_keyword(Keyword::Else) {
-            self.tokens.advance();
-            otherwise = Some(self.statement(room, loops)?);
-        }
+        let otherwise = self.otherwise(room, loops)?;
         let branch = If {
             condition,
             then,
             otherwise,
         };
         Ok(Statement::If(Boxed::new(self.alloc, branch)?))
+    }
+
+    /// What an `else` has, where one is there. So it belongs to the nearest `if`.
+    #[cycle(statement)]
+    #[tactic(auto, using(crate::proofs::ScriptRules::script_reading))]
+    fn otherwise(&mut self, room: u8, loops: bool) -> Result<Option<Statement>, Stop>
+        ensures { Reads optional_statement (else_at (read_statement room) loops self.old.tokens) result self.new.tokens }
+    {
+        if !self.tokens.sees_keyword(Keyword::Else) {
+            return Ok(None);
+        }
+        self.tokens.advance();
+        Ok(Some(self.statement(room, loops)?))
     }
 
     /// A `while` behind its word.

@@ -2,12 +2,13 @@
 ghost use Rattle.std.specs.Prelude.{length};
 ghost use Rattle.jo_grammar.specs.ReadStatements as spec;
 ghost use Rattle.jo_syntax.specs.Outcomes.{Reads};
+ghost use Rattle.jo_syntax.specs.ScriptOutcomes.{leaving};
 ghost use Rattle.jo_tree.specs.ScriptViews.{statement_tree, trees_list};
 
 use crate::parser::Parser;
 use crate::stop::Stop;
 use jo_lex::Punct;
-use jo_tree::{Expr, Statement};
+use jo_tree::{Expr, Keyword, Statement};
 use sqlite_items::Items;
 
 impl<'a> Parser<'a> {
@@ -74,14 +75,17 @@ impl<'a> Parser<'a> {
 
     /// A `break` or a `continue`, which stands only in the body of a loop.
     #[tactic(auto, using(crate::proofs::ScriptRules::script_reading), unfolding(jo_grammar::specs::ReadStatements::leave_at))]
-    pub(crate) fn leave(&mut self, statement: Statement, loops: bool) -> Result<Statement, Stop>
-        ensures { Reads statement_tree (spec.leave_at (statement_tree statement) loops self.old.tokens) result self.new.tokens }
+    pub(crate) fn leave(&mut self, keyword: Keyword, loops: bool) -> Result<Statement, Stop>
+        ensures { Reads statement_tree (spec.leave_at (leaving keyword) loops self.old.tokens) result self.new.tokens }
     {
         if !loops {
             return Err(Stop::Unexpected);
         }
         self.tokens.advance();
         self.tokens.expect(Punct::Semicolon)?;
-        Ok(statement)
+        match keyword {
+            Keyword::Break => Ok(Statement::Break),
+            _ => Ok(Statement::Continue),
+        }
     }
 }

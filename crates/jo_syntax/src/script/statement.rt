@@ -48,8 +48,7 @@ impl<'a> Parser<'a> {
                 let inner = self.tokens.open(room)?;
                 self.for_loop(inner)
             }
-            Keyword::Break => self.leave(Statement::Break, loops),
-            Keyword::Continue => self.leave(Statement::Continue, loops),
+            Keyword::Break | Keyword::Continue => self.leave(keyword, loops),
             Keyword::Print => {
                 self.tokens.advance();
                 self.print(room)

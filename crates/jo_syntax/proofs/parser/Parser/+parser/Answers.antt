@@ -11,19 +11,19 @@ pub links-returns-then-rank-level : goal.links-returns-then-rank-level
 unfolding links_from
 links-returns-then-rank-level t c =
     let e = one_more (λ n. links_from c.args.room (under c.args.room) c.args.ins c.args.level n (links_list c.loop-turn.links) c.loop-turn.self.tokens) _ c.loop-turn._turn c.loop-turn-test.true c.loop-turn.invariant in
-    first_of (search rules, grind (arith, common_steps, reading))
+    grind (arith, common_steps, reading)
 
 pub links-returns-in_err-inner : goal.links-returns-in_err-inner
 unfolding links_from
 links-returns-in_err-inner t c =
     let e = one_more (λ n. links_from c.args.room (under c.args.room) c.args.ins c.args.level n (links_list c.loop-turn.links) c.loop-turn.self.tokens) _ c.loop-turn._turn c.loop-turn-test.true c.loop-turn.invariant in
-    first_of (search rules, grind (arith, common_steps, reading))
+    grind (arith, common_steps, reading)
 
 pub links-returns-in_err-operand : goal.links-returns-in_err-operand
 unfolding links_from
 links-returns-in_err-operand t c =
     let e = one_more (λ n. links_from c.args.room (under c.args.room) c.args.ins c.args.level n (links_list c.loop-turn.links) c.loop-turn.self.tokens) _ c.loop-turn._turn c.loop-turn-test.true c.loop-turn.invariant in
-    first_of (search rules, grind (arith, common_steps, reading))
+    grind (arith, common_steps, reading)
 
 pub links-loop-turn-preserved : goal.links-loop-turn-preserved
 unfolding links_from
@@ -35,25 +35,25 @@ pub properties-returns-then-sees : goal.properties-returns-then-sees
 unfolding props_from expect
 properties-returns-then-sees t c =
     let e = one_more (λ n. props_from (read c.args.inner) n (props_list c.loop-turn.props) c.loop-turn.self.tokens) _ c.loop-turn._turn c.loop-turn-test.true c.loop-turn.invariant in
-    first_of (search rules, grind (arith, common_steps, reading))
+    grind (arith, common_steps, reading)
 
 pub properties-returns-in_err-expect : goal.properties-returns-in_err-expect
 unfolding props_from expect
 properties-returns-in_err-expect t c =
     let e = one_more (λ n. props_from (read c.args.inner) n (props_list c.loop-turn.props) c.loop-turn.self.tokens) _ c.loop-turn._turn c.loop-turn-test.true c.loop-turn.invariant in
-    first_of (search rules, grind (arith, common_steps, reading))
+    grind (arith, common_steps, reading)
 
 pub properties-returns-then-sees-2 : goal.properties-returns-then-sees-2
 unfolding props_from expect
 properties-returns-then-sees-2 t c =
     let e = one_more (λ n. props_from (read c.args.inner) n (props_list c.loop-turn.props) c.loop-turn.self.tokens) _ c.loop-turn._turn c.loop-turn-test.true c.loop-turn.invariant in
-    first_of (search rules, grind (arith, common_steps, reading))
+    grind (arith, common_steps, reading)
 
 pub properties-returns-in_err-property : goal.properties-returns-in_err-property
 unfolding props_from expect
 properties-returns-in_err-property t c =
     let e = one_more (λ n. props_from (read c.args.inner) n (props_list c.loop-turn.props) c.loop-turn.self.tokens) _ c.loop-turn._turn c.loop-turn-test.true c.loop-turn.invariant in
-    first_of (search rules, grind (arith, common_steps, reading))
+    grind (arith, common_steps, reading)
 
 pub properties-loop-turn-preserved : goal.properties-loop-turn-preserved
 unfolding props_from expect

@@ -11,8 +11,8 @@ decreases-expression l = l.room * 32 + 17
 abbrev pub decreases-assignment : goal.decreases-assignment
 decreases-assignment l = l.room * 32
 
-abbrev pub decreases-choice : goal.decreases-choice
-decreases-choice l = l.inner * 32 + 19
+abbrev pub decreases-choices : goal.decreases-choices
+decreases-choices l = l.room * 32
 
 abbrev pub decreases-operand : goal.decreases-operand
 decreases-operand l = l.inner * 32 + (16 - l.level)

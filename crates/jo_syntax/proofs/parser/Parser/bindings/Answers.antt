@@ -12,13 +12,13 @@ pub returns-in_err-expect : goal.returns-in_err-expect
 unfolding bindings_from expect
 returns-in_err-expect c =
     let e = one_more (λ n. bindings_from c.args.room c.args.ins n (bindings_list c.loop-turn.found) c.loop-turn.self.tokens) _ c.loop-turn._turn c.loop-turn-test.true c.loop-turn.invariant in
-    first_of (search rules, grind (arith, common_steps, script_reading))
+    grind (arith, common_steps, script_reading)
 
 pub returns-in_err-binding : goal.returns-in_err-binding
 unfolding bindings_from expect
 returns-in_err-binding c =
     let e = one_more (λ n. bindings_from c.args.room c.args.ins n (bindings_list c.loop-turn.found) c.loop-turn.self.tokens) _ c.loop-turn._turn c.loop-turn-test.true c.loop-turn.invariant in
-    first_of (search rules, grind (arith, common_steps, script_reading))
+    grind (arith, common_steps, script_reading)
 
 pub loop-turn-preserved : goal.loop-turn-preserved
 unfolding bindings_from expect

@@ -10,7 +10,7 @@ pub returns-in_err-item : goal.returns-in_err-item
 unfolding whole_script
 returns-in_err-item c =
     let e = one_more (λ n. script_from c.args.limit n (items_list c.loop-turn.items) c.loop-turn.self.tokens) _ c.loop-turn._turn c.loop-turn-test.true c.loop-turn.invariant in
-    first_of (search rules, grind (arith, common_steps, script_reading, script_turns))
+    grind (arith, common_steps, script_reading, script_turns)
 
 pub loop-turn-preserved : goal.loop-turn-preserved
 unfolding whole_script
