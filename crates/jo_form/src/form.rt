@@ -7,13 +7,13 @@ use sqlite_items::Items;
 pub const MOST_FORM_BYTES: usize = 4_096;
 
 /// A script of the form, as its steps.
-#[derive(Debug, Drop)]
+#[derive(Drop)]
 pub struct Form {
     pub steps: Items<Step>,
 }
 
 /// A statement of such a script. Each name in it is the name of a property of the shared object.
-#[derive(Debug, Drop)]
+#[derive(Drop)]
 pub enum Step {
     /// `shared.name = number;`
     Put(NameId, i64),

@@ -10,49 +10,22 @@ use jo_value::{NameId, Texts};
 
 // ---- operands
 
-#[tactic(auto, using(crate::proofs::Trees::trees))]
-fn unary_operand(unary: &Unary) -> Option<&Postfix>
-    ensures some { IfSome result (λ postfix. unary_tree unary.now ≡ postfix_tree postfix.now) }
-    ensures none { IfNone result (parts.is_operand (unary_tree unary.now) ≡ false) }
-{
-    match unary {
-        Unary::Postfix(postfix) => Some(postfix),
-        Unary::Applied(_, _) => None,
-        Unary::Delete(_) => None,
-    }
-}
-
-#[tactic(auto, using(crate::proofs::Trees::trees))]
-fn chain_operand(chain: &Chain) -> Option<&Postfix>
-    ensures some { IfSome result (λ postfix. chain_tree chain.now ≡ postfix_tree postfix.now) }
-    ensures none { IfNone result (parts.is_operand (chain_tree chain.now) ≡ false) }
-{
-    match chain {
-        Chain::Unary(unary) => unary_operand(unary),
-        Chain::Binary(_) => None,
-    }
-}
-
-#[tactic(auto, using(crate::proofs::Trees::trees))]
-fn cond_operand(cond: &Cond) -> Option<&Postfix>
-    ensures some { IfSome result (λ postfix. cond_tree cond.now ≡ postfix_tree postfix.now) }
-    ensures none { IfNone result (parts.is_operand (cond_tree cond.now) ≡ false) }
-{
-    match cond {
-        Cond::Chain(chain) => chain_operand(chain),
-        Cond::Choice(_) => None,
-    }
-}
-
-#[tactic(auto, using(crate::proofs::Trees::trees))]
+#[tactic(auto, using(crate::proofs::Trees::operands))]
 fn operand(expr: &Expr) -> Option<&Postfix>
     ensures some { IfSome result (λ postfix. expr_tree expr.now ≡ postfix_tree postfix.now) }
     ensures none { IfNone result (parts.is_operand (expr_tree expr.now) ≡ false) }
 {
-    match expr {
-        Expr::Cond(cond) => cond_operand(cond),
-        Expr::Assign(_) => None,
-    }
+    let Expr::Cond(cond) = expr else { return None };
+    let Cond::Chain(chain) = cond else {
+        return None
+    };
+    let Chain::Unary(unary) = chain else {
+        return None
+    };
+    let Unary::Postfix(postfix) = unary else {
+        return None
+    };
+    Some(postfix)
 }
 
 // ---- numbers
@@ -67,22 +40,15 @@ fn primary_number(primary: &Primary) -> Option<i64>
     }
 }
 
-#[tactic(auto, using(crate::proofs::Trees::trees))]
-fn postfix_number(postfix: &Postfix) -> Option<i64>
-    ensures { result ≡ spec.number_in (postfix_tree postfix.now) }
-{
-    match postfix {
-        Postfix::Primary(primary) => primary_number(primary),
-        Postfix::Member(_) => None,
-    }
-}
-
 /// The number that an expression is, where it is one that is written without a sign and brackets.
 #[tactic(auto, using(crate::proofs::Trees::trees))]
 pub(crate) fn number_in(expr: &Expr) -> Option<i64>
     ensures { result ≡ spec.number_in (expr_tree expr.now) }
 {
-    postfix_number(operand(expr)?)
+    match operand(expr)? {
+        Postfix::Primary(primary) => primary_number(primary),
+        Postfix::Member(_) => None,
+    }
 }
 
 // ---- names
@@ -124,22 +90,15 @@ fn member_name(texts: &Texts, member: &Member) -> Option<NameId>
     name_of(texts, only_word(member.accesses.as_slice())?)
 }
 
-#[tactic(auto, using(crate::proofs::Trees::trees))]
-fn postfix_name(texts: &Texts, postfix: &Postfix) -> Option<NameId>
-    ensures { result ≡ spec.shared_name texts.now (postfix_tree postfix.now) }
-{
-    match postfix {
-        Postfix::Primary(_) => None,
-        Postfix::Member(member) => member_name(texts, member),
-    }
-}
-
 /// The name of the property of the shared object that an expression is, where it is one.
 #[tactic(auto, using(crate::proofs::Trees::trees))]
 pub(crate) fn shared_name(texts: &Texts, expr: &Expr) -> Option<NameId>
     ensures { result ≡ spec.shared_name texts.now (expr_tree expr.now) }
 {
-    postfix_name(texts, operand(expr)?)
+    match operand(expr)? {
+        Postfix::Primary(_) => None,
+        Postfix::Member(member) => member_name(texts, member.get()),
+    }
 }
 
 /// The same of a target.
@@ -149,6 +108,6 @@ pub(crate) fn target_name(texts: &Texts, target: &Target) -> Option<NameId>
 {
     match target {
         Target::Ident(_) => None,
-        Target::Member(member) => member_name(texts, member),
+        Target::Member(member) => member_name(texts, member.get()),
     }
 }

@@ -36,7 +36,7 @@ fn run(texts: &Texts, expr: &Expr) -> Option<Step>
     ensures { result ≡ spec.step_of texts.now (run (expr_tree expr.now)) }
 {
     match expr {
-        Expr::Assign(assign) => assignment(texts, assign),
+        Expr::Assign(assign) => assignment(texts, assign.get()),
         Expr::Cond(_) => None,
     }
 }

@@ -2,8 +2,8 @@
 ghost use Rattle.std.specs.Prelude.{◌≤◌, length};
 ghost use Rattle.jo_value.specs.declared.limits.TheConstants.{MOST_INPUT};
 
-use jo_pieces::pieces;
 use jo_lex::{ParseFault, Refusal, RefusalKind};
+use jo_pieces::pieces;
 use std::alloc::{AllocError, Global};
 use std::test::Fail;
 

@@ -1,8 +1,8 @@
 // Expressions, with ample memory.
 ghost use Rattle.std.specs.Prelude.{◌≤◌, length};
 
-use jo_syntax::parse_expression;
 use jo_lex::{ParseFault, Refusal, RefusalKind, tokens};
+use jo_syntax::parse_expression;
 use jo_value::Texts;
 use std::alloc::Global;
 use std::process::Abort;

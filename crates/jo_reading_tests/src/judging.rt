@@ -1,5 +1,4 @@
 // Small scripts, with ample memory.
-
 use jo_judge::judge;
 use jo_lex::{ParseFault, Refusal, RefusalKind};
 use jo_tree::{
@@ -12,7 +11,7 @@ use std::process::Abort;
 use std::test::Fail;
 
 // A part of a script. Its place in the script is the place of each of its names.
-#[derive(Clone, Copy, Debug, PartialEq, Eq)]
+#[derive(Clone, Copy)]
 enum Part {
     // `let name;`
     Let(u16),

@@ -1,8 +1,8 @@
 // Scripts read from their text, with ample memory.
 ghost use Rattle.std.specs.Prelude.{◌≤◌, length};
 
-use jo_syntax::parse_script;
 use jo_lex::{ParseFault, Refusal, RefusalKind, tokens};
+use jo_syntax::parse_script;
 use jo_value::Texts;
 use std::alloc::{AllocError, Global};
 use std::process::Abort;

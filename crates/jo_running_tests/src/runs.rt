@@ -1,6 +1,6 @@
 // Whole runs over memory, one byte a call.
-use jo_program::{Status, run};
 use jo_io::{MemorySink, MemorySource};
+use jo_program::{Status, run};
 use std::alloc::{AllocError, Global};
 use std::sync::Wait;
 use std::test::Fail;

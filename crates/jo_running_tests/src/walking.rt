@@ -1,8 +1,8 @@
 // Whole scripts, with ample memory.
-use jo_walk::walk;
 use jo_form::{Form, Step};
 use jo_model::Outcome;
 use jo_value::{NameId, Texts};
+use jo_walk::walk;
 use sqlite_items::Items;
 use std::alloc::{AllocError, Global};
 use std::test::Fail;

@@ -1,7 +1,7 @@
 // Each public call once, and what no clause says: that a call ends well where there is memory.
-use jo_text::{ReadError, add_heap, add_line, add_run, add_value, read_all, write_all};
 use jo_io::{Failed, MemorySink, MemorySource};
 use jo_model::{Call, Outcome, PlainHeap};
+use jo_text::{ReadError, add_heap, add_line, add_run, add_value, read_all, write_all};
 use jo_value::{Key, NameId, ObjId, TextId, Texts, Value};
 use std::process::Abort;
 use std::test::Fail;

@@ -10,7 +10,7 @@ use Rattle.jo_model.specs.declared.call.Call.TheVariants.{Put}
 use Rattle.jo_model.specs.declared.call.Outcome.{Outcome}
 use Rattle.jo_model.specs.declared.call.Outcome.TheVariants as outcome
 use Rattle.jo_model.specs.declared.call.Reply.{Reply}
-use Rattle.jo_model.specs.declared.call.Reply.TheVariants.{TooManyNames, ObjectsSpent, Spent}
+use Rattle.jo_model.specs.declared.call.Reply.TheVariants as reply
 use Rattle.jo_model.specs.Heaps.{Heap, shared, object_of}
 use Rattle.jo_model.specs.Objects.{value_of}
 use Rattle.jo_model.specs.One.{one}
@@ -42,10 +42,14 @@ values_in heap names = map (value_in heap) names
 
 -- the outcome of a script that gets a reply, where it is a refusal
 abbrev pub refusal_of : Reply → Option Outcome
-refusal_of TooManyNames = Some outcome.TooManyNames
-refusal_of ObjectsSpent = Some outcome.ObjectsSpent
-refusal_of (Spent spent) = Some outcome.Spent
-refusal_of _ = None
+refusal_of (reply.Made o) = None
+refusal_of (reply.Found v) = None
+refusal_of (reply.Flag b) = None
+refusal_of (reply.Names names) = None
+refusal_of reply.Done = None
+refusal_of reply.TooManyNames = Some outcome.TooManyNames
+refusal_of reply.ObjectsSpent = Some outcome.ObjectsSpent
+refusal_of (reply.Spent spent) = Some outcome.Spent
 
 -- the heap after a put on the shared object, and the reply
 abbrev pub put_shared : Heap → NameId → ℤ → Heap × Reply

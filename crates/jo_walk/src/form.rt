@@ -12,7 +12,7 @@ use jo_value::Texts;
 use std::alloc::{AllocError, Global};
 
 /// What a script leaves: the heap, its printed lines, each closed by a line feed, and how it ended.
-#[derive(Debug, Drop)]
+#[derive(Drop)]
 pub struct Walked {
     pub heap: PlainHeap,
     pub lines: Vec<u8>,

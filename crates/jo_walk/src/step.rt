@@ -59,10 +59,10 @@ fn refusal(reply: &Reply) -> Option<Outcome>
     ensures { result ≡ refusal_of reply.now }
 {
     match reply {
+        Reply::Made(_) | Reply::Found(_) | Reply::Flag(_) | Reply::Names(_) | Reply::Done => None,
         Reply::TooManyNames => Some(Outcome::TooManyNames),
         Reply::ObjectsSpent => Some(Outcome::ObjectsSpent),
         Reply::Spent(_) => Some(Outcome::Spent),
-        _ => None,
     }
 }
 
