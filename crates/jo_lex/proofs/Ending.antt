@@ -1,6 +1,7 @@
 -- A script has at most as many pieces as bytes: from its last state nothing goes on.
-use Rattle.std.proofs.Common.{◌≡◌, ℕ, zero, suc, ◌+◌, ◌-◌, ◌<◌, ◌≤◌, ◌==◌, ◌||◌, nat_le, Bool, true, false, List, [], ◌∷◌, length, drop, Option, Some, None, unwrap_or, if◌then◌else◌, refl, sym, ap, ◌∙◌, arith, length-append}
-use Rattle.std.specs.List.{take_while}
+use Rattle.std.proofs.Common.{◌≡◌, ℕ, zero, suc, ◌+◌, ◌-◌, ◌<◌, ◌≤◌, ◌==◌, ◌||◌, nat_le, nat_lt, Bool, true, false, List, [], ◌∷◌, length, drop, Option, Some, None, unwrap_or, if◌then◌else◌, refl, sym, ap, ◌∙◌, arith, length-append}
+use Rattle.std.proofs.lemmas.Bool.{and_parts, ltb-true}
+use Rattle.std.specs.List.{take_while, list_all}
 use Rattle.std.specs.Str.{encode_utf8_all}
 use Rattle.std.specs.Prelude.{encode_utf8, IfSome, pos}
 use Rattle.jo_value.specs.declared.limits.TheConstants.{MOST_NUMBER, MOST_TEXT_BYTES}
@@ -12,9 +13,7 @@ use Rattle.jo_lex.specs.Characters.{Characters, size, is_blank, is_in_line, is_d
 use Rattle.jo_lex.specs.Punctuators.{Entry, fits, longer, longest, table, punctuator_of}
 use Rattle.jo_lex.specs.Pieces.{word, text, number, Piece, gap, lexeme, fault, after_close, closed, comment, word_piece, is_escapable, with_front, quoted, text_piece, decimal, judged, number_piece, accepted, punctuator_piece, token_piece, piece}
 use Rattle.jo_lex.specs.Tokens.{State, Next, ended, refused, onward, kind_of, with_token, taken, next_of, next, going_on, reached, last}
-use Rattle.jo_lex.specs.Views.{is_falling}
 use Rattle.jo_lex.proofs.Texts.{encode_nonempty}
-use Rattle.jo_lex.proofs.Punctuation.{falling_parts}
 
 size-cons : (c : ℕ) (cs : Characters) → size (c ∷ cs) ≡ length (encode_utf8 c) + size cs
 size-cons c cs = length-append (encode_utf8 c) (encode_utf8_all cs)
@@ -130,9 +129,14 @@ long-step : (p : Entry) (found : Option Entry) (b : Bool) → 0 < length p.0 →
 long-step p found true h k = longer-long p found h k
 long-step p found false h k = k
 
-longest-long : (n : ℕ) (ps : List Entry) (cs : Characters) → is_falling n ps ≡ true → IsLong (longest ps cs)
-longest-long n [] cs e = tt
-longest-long n (p ∷ ps) cs e = let parts = falling_parts n p ps e in long-step p (longest ps cs) (fits p.0 cs) parts.1 (longest-long (length p.0) ps cs parts.3)
+longest-long : (ps : List Entry) (cs : Characters) → list_all (λ p. nat_lt 0 (length p.0)) ps ≡ true → IsLong (longest ps cs)
+longest-long [] cs e = tt
+longest-long (p ∷ ps) cs e = let parts = and_parts (nat_lt 0 (length p.0)) (list_all (λ q. nat_lt 0 (length q.0)) ps) e in long-step p (longest ps cs) (fits p.0 cs) (ltb-true 0 (length p.0) parts.0) (longest-long ps cs parts.1)
+
+-- no punctuator is empty
+table-long : list_all (λ p. nat_lt 0 (length p.0)) table ≡ true
+unfolding table
+table-long = refl
 
 drop-shorter : (n c : ℕ) (cs : Characters) → 0 < n → size (drop n (c ∷ cs)) ≤ size cs
 drop-shorter zero c cs h = absurd (omega arith)
@@ -148,7 +152,7 @@ punctuator-leaves c cs (Some entry) h = accepted-leaves (size cs) entry.1 _ (dro
 
 operator-leaves : (c : ℕ) (cs : Characters) → Leaves (size cs) (punctuator_piece (punctuator_of (c ∷ cs)) (c ∷ cs))
 unfolding punctuator_of
-operator-leaves c cs = punctuator-leaves c cs (longest table (c ∷ cs)) (longest-long 4 table (c ∷ cs) refl)
+operator-leaves c cs = punctuator-leaves c cs (longest table (c ∷ cs)) (longest-long table (c ∷ cs) table-long)
 
 comment-leaves : (cs : Characters) (other : Piece) → Leaves (size cs) other → Leaves (size cs) (unwrap_or (comment cs) other)
 comment-leaves [] other h = h

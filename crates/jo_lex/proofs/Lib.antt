@@ -4,3 +4,5 @@ pub mod Literals
 pub mod Reading
 pub mod Worked
 pub mod Ending
+pub mod Groups
+pub mod Lengths

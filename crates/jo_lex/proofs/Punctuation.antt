@@ -1,6 +1,6 @@
 -- A punctuator at the front of a text, and the longest of a table.
 use Rattle.std.proofs.Common.{◌≡◌, ◌≢◌, ℕ, zero, suc, ◌<◌, ◌≤◌, Bool, true, false, cond, not, ◌&&◌, nat_lt, nat_le, nat_eq, List, [], ◌∷◌, ◌++◌, length, drop, slice_index_or, Bor, Option, Some, None, refl, sym, ap, ◌∙◌, arith, drop_at}
-use Rattle.std.proofs.lemmas.Bool.{leb-true, ltb-true, le-ltb}
+use Rattle.std.proofs.lemmas.Bool.{and_parts, false_from_ne_true, leb-true, ltb-true, le-ltb}
 use Rattle.std.proofs.lemmas.Bool.Decides.{Decides-eqb}
 use Rattle.std.proofs.lemmas.Slice.Eq.{starts_is}
 use Rattle.std.proofs.lemmas.Str.{chars-append, chars-IsAscii, IsUtf8-from_ascii, encodes-chars, encodes-append, encodes-IsAscii}
@@ -12,18 +12,10 @@ use Rattle.jo_lex.specs.declared.punct.Punct.{Punct}
 use Rattle.jo_lex.specs.Punctuators.{Entry, fits, longer, longest}
 use Rattle.jo_lex.specs.Views.{entries_of, is_ascii, is_falling}
 
-pub both : (a b : Bool) → (a && b) ≡ true → (a ≡ true) × (b ≡ true)
-both true b e = (refl, e)
-both false b e = cc
-
 pub IsAscii-from_test : (bs : List ℕ) → is_ascii bs ≡ true → IsAscii bs
 IsAscii-from_test [] e i = omega arith
-IsAscii-from_test (b ∷ bs) e zero = let k = ltb-true b 128 (both (nat_lt b 128) (is_ascii bs) e).0 in omega arith
-IsAscii-from_test (b ∷ bs) e (suc i) = IsAscii-from_test bs (both (nat_lt b 128) (is_ascii bs) e).1 i
-
-pub false_from : (b : Bool) → (b ≡ true → ⊥) → b ≡ false
-false_from true h = absurd (h refl)
-false_from false h = refl
+IsAscii-from_test (b ∷ bs) e zero = let k = ltb-true b 128 (and_parts (nat_lt b 128) (is_ascii bs) e).0 in omega arith
+IsAscii-from_test (b ∷ bs) e (suc i) = IsAscii-from_test bs (and_parts (nat_lt b 128) (is_ascii bs) e).1 i
 
 -- a text that begins with ASCII bytes begins with them as characters
 pub starts-yes : (p s rest : List ℕ) → is_ascii p ≡ true → s ≡ p ++ rest → chars s ≡ p ++ chars rest
@@ -35,7 +27,7 @@ starts_with-yes p cs rest e = (starts_is Decides-eqb cs p (starts_with nat_eq cs
 -- and one that does not, does not
 pub starts_with-no : (p s : List ℕ) → is_ascii p ≡ true → IsUtf8 s → ((rest : List ℕ) → s ≢ p ++ rest) → starts_with nat_eq (chars s) p ≡ false
 starts_with-no p s a u none =
-    false_from (starts_with nat_eq (chars s) p) (λ h.
+    false_from_ne_true (starts_with nat_eq (chars s) p) (λ h.
     let cs = chars s in
     let rest = drop (length p) cs in
     let split : cs ≡ p ++ rest = (starts_is Decides-eqb cs p (starts_with nat_eq cs p) refl).0 h in
@@ -74,9 +66,9 @@ longer_than-more m n (Some q) le h = omega arith
 -- the parts of the test of a table
 pub falling_parts : (n : ℕ) (p : Entry) (ps : List Entry) → is_falling n (p ∷ ps) ≡ true → (is_ascii p.0 ≡ true) × (0 < length p.0) × (length p.0 ≤ n) × (is_falling (length p.0) ps ≡ true)
 falling_parts n p ps e =
-    let a = both (is_ascii p.0 && nat_lt 0 (length p.0) && nat_le (length p.0) n) (is_falling (length p.0) ps) e in
-    let b = both (is_ascii p.0 && nat_lt 0 (length p.0)) (nat_le (length p.0) n) a.0 in
-    let d = both (is_ascii p.0) (nat_lt 0 (length p.0)) b.0 in
+    let a = and_parts (is_ascii p.0 && nat_lt 0 (length p.0) && nat_le (length p.0) n) (is_falling (length p.0) ps) e in
+    let b = and_parts (is_ascii p.0 && nat_lt 0 (length p.0)) (nat_le (length p.0) n) a.0 in
+    let d = and_parts (is_ascii p.0) (nat_lt 0 (length p.0)) b.0 in
     (d.0, ltb-true 0 (length p.0) d.1, leb-true (length p.0) n b.1, a.1)
 
 longest-short : (n : ℕ) (ps : List Entry) (cs : List ℕ) → is_falling n ps ≡ true → longer_than n (longest ps cs)

@@ -1,28 +1,38 @@
 -- Worked cases of the lexical grammar, each shown by computing.
-use Rattle.std.proofs.Common.{◌≡◌, [], ◌∷◌, Some, None, false, refl}
+use Rattle.std.proofs.Common.{◌≡◌, [], ◌∷◌, length, Some, None, false, refl}
 use Rattle.std.specs.Prelude.{codes, pos}
 use Rattle.jo_lex.specs.declared.punct.Punct.TheVariants.{Question, Same}
 use Rattle.jo_lex.specs.declared.refusal.RefusalKind.TheVariants.{BadToken, NumberTooLarge}
-use Rattle.jo_lex.specs.Punctuators.{punctuator_of}
+use Rattle.jo_lex.specs.Punctuators.{table, punctuator_of}
+use Rattle.jo_lex.specs.Words.{reserved_words}
 use Rattle.jo_lex.specs.Pieces.{lexeme, number, gap, fault, comment, quoted, decimal, judged, piece}
 use Rattle.jo_lex.specs.Tokens.{IsRead, start, end_token, reached}
 
+-- the punctuators and the reserved words are 57 each
+table_has_57 : length table ≡ 57
+unfolding table
+table_has_57 = refl
+
+reserved_words_are_57 : length reserved_words ≡ 57
+unfolding reserved_words
+reserved_words_are_57 = refl
+
 -- the longest is taken, accepted or not
 longest_of_four : punctuator_of (codes ">>>=1") ≡ Some (codes ">>>=", None)
-unfolding punctuator_of
+unfolding punctuator_of table
 longest_of_four = refl
 
 three_signs : punctuator_of (codes "===") ≡ Some (codes "===", Some Same)
-unfolding punctuator_of
+unfolding punctuator_of table
 three_signs = refl
 
 -- `?.` is none before a digit
 before_a_digit : punctuator_of (codes "?.5") ≡ Some (codes "?", Some Question)
-unfolding punctuator_of
+unfolding punctuator_of table
 before_a_digit = refl
 
 before_a_name : punctuator_of (codes "?.x") ≡ Some (codes "?.", None)
-unfolding punctuator_of
+unfolding punctuator_of table
 before_a_name = refl
 
 -- behind a `/`: to before the end of the line, to the first `*/`, and the star of the opening does not close it

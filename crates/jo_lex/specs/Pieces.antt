@@ -39,7 +39,7 @@ abbrev pub comment : Characters → Option Piece
 comment [] = None
 comment (c ∷ cs) = if c == 47 then Some (gap (drop_while is_in_line cs)) else (if c == 42 then Some (closed (after_close cs)) else None)
 
--- ---- words and text literals, both of at most 255 bytes
+-- ---- words and text literals, both of at most MOST_TEXT_BYTES bytes
 
 -- a word or a text, unless it is too long
 abbrev pub limited : (List ℕ → Lexeme) → List ℕ → Characters → Piece

@@ -1,18 +1,33 @@
 -- The punctuators: the longest that a script begins with (ECMA-262, Punctuators).
-use Rattle.std.specs.Prelude.{ℕ, Bool, not, ◌&&◌, nat_eq, nat_lt, List, [], ◌∷◌, length, map, drop, Option, Some, None, if◌then◌else◌, codes}
+use Prim.Native.String.{String}
+use Rattle.std.specs.Prelude.{ℕ, Bool, not, ◌&&◌, nat_eq, nat_lt, List, [], ◌∷◌, ◌++◌, length, map, drop, Option, Some, None, if◌then◌else◌, codes}
 use Rattle.std.specs.List.{starts_with}
 use Rattle.std.specs.Str.{bytes_eq}
 use Rattle.jo_lex.specs.declared.punct.Punct.{Punct}
-use Rattle.jo_lex.specs.declared.punct.TheConstants.{PUNCTUATORS}
+use Rattle.jo_lex.specs.declared.punct.Punct.TheVariants.{OpenBrace, CloseBrace, OpenParen, CloseParen, OpenBracket, CloseBracket, Dot, Semicolon, Comma, Less, Greater, LessEqual, GreaterEqual, Same, NotSame, Plus, Minus, Star, Percent, Bang, AndAnd, OrOr, Question, Colon, Assign, PlusAssign, MinusAssign}
 use Rattle.jo_lex.specs.Characters.{Characters, is_digit, begins_with}
 
 -- a punctuator's characters, which are ASCII, and its value where it is accepted
 abbrev pub Entry : Type 0
 Entry = List ℕ × Option Punct
 
--- the punctuators of ECMAScript
-abbrev pub table : List Entry
-table = map (λ entry. (entry.0.now, entry.1)) PUNCTUATORS
+-- the punctuators that are accepted, with their values
+abbrev pub accepted_ones : List (String × Punct)
+accepted_ones =
+    ("{", OpenBrace) ∷ ("}", CloseBrace) ∷ ("(", OpenParen) ∷ (")", CloseParen) ∷ ("[", OpenBracket) ∷ ("]", CloseBracket)
+    ∷ (".", Dot) ∷ (";", Semicolon) ∷ (",", Comma) ∷ ("<", Less) ∷ (">", Greater) ∷ ("<=", LessEqual) ∷ (">=", GreaterEqual)
+    ∷ ("===", Same) ∷ ("!==", NotSame) ∷ ("+", Plus) ∷ ("-", Minus) ∷ ("*", Star) ∷ ("%", Percent) ∷ ("!", Bang)
+    ∷ ("&&", AndAnd) ∷ ("||", OrOr) ∷ ("?", Question) ∷ (":", Colon) ∷ ("=", Assign) ∷ ("+=", PlusAssign) ∷ ("-=", MinusAssign) ∷ []
+
+-- the other punctuators of ECMA-262
+abbrev pub other_ones : List String
+other_ones =
+    "..." ∷ "==" ∷ "!=" ∷ "**" ∷ "++" ∷ "--" ∷ "<<" ∷ ">>" ∷ ">>>" ∷ "&" ∷ "|" ∷ "^" ∷ "~" ∷ "??" ∷ "?." ∷ "*=" ∷ "%="
+    ∷ "**=" ∷ "<<=" ∷ ">>=" ∷ ">>>=" ∷ "&=" ∷ "|=" ∷ "^=" ∷ "&&=" ∷ "||=" ∷ "??=" ∷ "=>" ∷ "/" ∷ "/=" ∷ []
+
+-- the punctuators of ECMA-262
+unfoldable pub table : List Entry
+table = map (λ p. (codes p.0, Some p.1)) accepted_ones ++ map (λ p. (codes p, None)) other_ones
 
 -- the script begins with the punctuator; `?.` is none before a digit
 abbrev pub fits : List ℕ → Characters → Bool

@@ -1,5 +1,5 @@
 -- What the code holds, as the grammar sees it.
-use Rattle.std.specs.Prelude.{ℕ, ◌≤◌, Bool, ◌&&◌, ◌||◌, ◌==◌, if◌then◌else◌, nat_lt, nat_le, true, false, List, [], ◌∷◌, length, map, Option}
+use Rattle.std.specs.Prelude.{ℕ, ◌≤◌, Bool, ◌&&◌, ◌||◌, ◌==◌, if◌then◌else◌, nat_lt, nat_le, true, false, List, [], ◌∷◌, length, map, filter, Option}
 use Rattle.std.specs.Borrow.{Bor}
 use Rattle.std.specs.List.{list_all}
 use Rattle.std.specs.String.{string_bytes}
@@ -13,7 +13,7 @@ use Rattle.jo_lex.specs.declared.piece.Piece.{Piece}
 use Rattle.jo_lex.specs.declared.piece.Piece.TheVariants as found
 use Rattle.jo_lex.specs.Pieces as spec
 use Rattle.jo_lex.specs.Pieces.{is_escapable}
-use Rattle.jo_lex.specs.Punctuators.{Entry}
+use Rattle.jo_lex.specs.Punctuators.{Entry, table}
 
 -- a token of the code
 abbrev pub lexeme_of : Lexeme → spec.Lexeme
@@ -34,6 +34,10 @@ IsWithin n (found.Gap rest) = length rest.now ≤ n
 IsWithin n (found.Token l rest) = length rest.now ≤ n
 IsWithin n (found.Fault kind) = Unit {0}
 
+-- the words of a table of the code
+abbrev pub words_of : List (Bor (List ℕ)) → List (List ℕ)
+words_of words = map (λ word. word.now) words
+
 -- the rows of a table of the code
 abbrev pub entries_of : List (Bor (List ℕ) × Option Punct) → List Entry
 entries_of rows = map (λ row. (row.0.now, row.1)) rows
@@ -46,6 +50,25 @@ is_ascii bytes = list_all (λ b. nat_lt b 128) bytes
 abbrev pub is_falling : ℕ → List Entry → Bool
 is_falling n [] = true
 is_falling n (p ∷ ps) = is_ascii p.0 && nat_lt 0 (length p.0) && nat_le (length p.0) n && is_falling (length p.0) ps
+
+-- a script with this first character may begin so
+abbrev pub may_begin : ℕ → List ℕ → Bool
+may_begin c [] = true
+may_begin c (d ∷ ds) = d == c
+
+-- the entry among the others, behind those that are longer
+abbrev pub put : Entry → List Entry → List Entry
+put p [] = p ∷ []
+put p (q ∷ qs) = if nat_lt (length p.0) (length q.0) then q ∷ put p qs else p ∷ q ∷ qs
+
+-- the entries, the longer ones first
+abbrev pub longer_first : List Entry → List Entry
+longer_first [] = []
+longer_first (p ∷ ps) = put p (longer_first ps)
+
+-- the punctuators that a script with this first character may begin with, the longer ones first
+unfoldable pub entries_for : ℕ → List Entry
+entries_for c = longer_first (filter (λ p. may_begin c p.0) table)
 
 -- what a character does in a text literal, behind a backslash or not
 abbrev pub stroke_of : Bool → ℕ → ℕ → Stroke

@@ -12,8 +12,7 @@ mod refusal;
 mod reserved;
 mod token;
 
-pub use punct::{PUNCTUATORS, Punct};
+pub use punct::Punct;
 pub use reader::tokens;
 pub use refusal::{ParseFault, Refusal, RefusalKind};
-pub use reserved::RESERVED;
 pub use token::{Token, TokenKind};

@@ -1,5 +1,5 @@
 // Punctuators at the front of a text.
-ghost use Rattle.std.specs.Prelude.{◌≡◌, ◌+◌, ◌-◌, ◌<◌, true, false, length, drop, MatchOption, Some, None};
+ghost use Rattle.std.specs.Prelude.{◌≡◌, ◌+◌, ◌-◌, ◌<◌, [], ◌∷◌, true, false, length, take, drop, MatchOption, Some, None};
 ghost use Rattle.std.specs.Str.{chars};
 ghost use Rattle.jo_lex.specs.Pieces as spec;
 ghost use Rattle.jo_lex.specs.Punctuators.{fits, longest, punctuator_of, Entry};
@@ -7,7 +7,8 @@ ghost use Rattle.jo_lex.specs.Views.{piece_of, IsWithin, entries_of, is_ascii, i
 
 use crate::character::{Class, begins};
 use crate::piece::{Lexeme, Piece};
-use crate::{PUNCTUATORS, Punct, RefusalKind};
+use crate::punct::beginning_with;
+use crate::{Punct, RefusalKind};
 
 // What is left behind the punctuator, where the text begins with it.
 fn past_punctuator<'a>(punctuator: &str, text: &'a str) -> Option<&'a str>
@@ -45,14 +46,14 @@ fn lookup<'a>(
     None
 }
 
-// The longest punctuator, where it is accepted.
-#[tactic(auto, unfolding(crate::specs::Punctuators::punctuator_of))]
-pub(crate) fn operator(text: &str) -> Piece<'_>
+// The longest punctuator of a text with this first character, where it is accepted.
+pub(crate) fn operator(text: &str, first: char) -> Piece<'_>
+    requires { take 1 (chars text.now) ≡ first ∷ [] }
     ensures value { let cs = chars text.now in
         piece_of result ≡ spec.punctuator_piece (punctuator_of cs) cs }
     ensures within { IsWithin (length text.now - 1) result }
 {
-    match lookup(&PUNCTUATORS, text) {
+    match lookup(beginning_with(first), text) {
         Some((Some(punct), rest)) => Piece::Token(Lexeme::Punct(punct), rest),
         _ => Piece::Fault(RefusalKind::BadToken),
     }

@@ -76,7 +76,7 @@ fn token<'a>(
     if first == '"' || first == '\'' {
         return text_literal(alloc, first, after);
     }
-    Ok(operator(text))
+    Ok(operator(text, first))
 }
 
 /// The piece that begins with this character.

@@ -1,7 +1,9 @@
 // The punctuators.
+ghost use Rattle.std.specs.Prelude.{◌≡◌, true};
+ghost use Rattle.jo_lex.specs.Views.{entries_of, entries_for, is_falling};
 
 /// A punctuator that is accepted.
-#[derive(Clone, Copy, Debug, PartialEq, Eq)]
+#[derive(Clone, Copy, PartialEq, Eq)]
 pub enum Punct {
     OpenBrace,
     CloseBrace,
@@ -32,63 +34,117 @@ pub enum Punct {
     MinusAssign,
 }
 
-/// The punctuators of ECMAScript, the longer ones first. Those without a value are not accepted.
-pub const PUNCTUATORS: [(&str, Option<Punct>); 57] = [
-    (">>>=", None),
-    ("...", None),
-    ("===", Some(Punct::Same)),
-    ("!==", Some(Punct::NotSame)),
-    (">>>", None),
-    ("**=", None),
+// A punctuator of ECMAScript, and its value where it is accepted.
+type Row = (&'static str, Option<Punct>);
+
+// Those that begin alike, the longer ones first.
+const DOTS: [Row; 2] = [("...", None), (".", Some(Punct::Dot))];
+
+const LESS: [Row; 4] = [
     ("<<=", None),
-    (">>=", None),
-    ("&&=", None),
-    ("||=", None),
-    ("??=", None),
     ("<=", Some(Punct::LessEqual)),
-    (">=", Some(Punct::GreaterEqual)),
-    ("==", None),
-    ("!=", None),
-    ("**", None),
-    ("++", None),
-    ("--", None),
     ("<<", None),
-    (">>", None),
-    ("&&", Some(Punct::AndAnd)),
-    ("||", Some(Punct::OrOr)),
-    ("??", None),
-    ("?.", None),
-    ("+=", Some(Punct::PlusAssign)),
-    ("-=", Some(Punct::MinusAssign)),
-    ("*=", None),
-    ("/=", None),
-    ("%=", None),
-    ("&=", None),
-    ("|=", None),
-    ("^=", None),
-    ("=>", None),
-    ("{", Some(Punct::OpenBrace)),
-    ("}", Some(Punct::CloseBrace)),
-    ("(", Some(Punct::OpenParen)),
-    (")", Some(Punct::CloseParen)),
-    ("[", Some(Punct::OpenBracket)),
-    ("]", Some(Punct::CloseBracket)),
-    (".", Some(Punct::Dot)),
-    (";", Some(Punct::Semicolon)),
-    (",", Some(Punct::Comma)),
     ("<", Some(Punct::Less)),
+];
+
+const GREATER: [Row; 6] = [
+    (">>>=", None),
+    (">>>", None),
+    (">>=", None),
+    (">=", Some(Punct::GreaterEqual)),
+    (">>", None),
     (">", Some(Punct::Greater)),
-    ("+", Some(Punct::Plus)),
-    ("-", Some(Punct::Minus)),
-    ("*", Some(Punct::Star)),
-    ("/", None),
-    ("%", Some(Punct::Percent)),
-    ("&", None),
-    ("|", None),
-    ("^", None),
-    ("!", Some(Punct::Bang)),
-    ("~", None),
-    ("?", Some(Punct::Question)),
-    (":", Some(Punct::Colon)),
+];
+
+const EQUALS: [Row; 4] = [
+    ("===", Some(Punct::Same)),
+    ("==", None),
+    ("=>", None),
     ("=", Some(Punct::Assign)),
 ];
+
+const BANGS: [Row; 3] = [
+    ("!==", Some(Punct::NotSame)),
+    ("!=", None),
+    ("!", Some(Punct::Bang)),
+];
+
+const PLUSES: [Row; 3] = [
+    ("+=", Some(Punct::PlusAssign)),
+    ("++", None),
+    ("+", Some(Punct::Plus)),
+];
+
+const MINUSES: [Row; 3] = [
+    ("-=", Some(Punct::MinusAssign)),
+    ("--", None),
+    ("-", Some(Punct::Minus)),
+];
+
+const STARS: [Row; 4] = [
+    ("**=", None),
+    ("**", None),
+    ("*=", None),
+    ("*", Some(Punct::Star)),
+];
+
+const SLASHES: [Row; 2] = [("/=", None), ("/", None)];
+
+const PERCENTS: [Row; 2] = [("%=", None), ("%", Some(Punct::Percent))];
+
+const ANDS: [Row; 4] = [
+    ("&&=", None),
+    ("&&", Some(Punct::AndAnd)),
+    ("&=", None),
+    ("&", None),
+];
+
+const ORS: [Row; 4] = [
+    ("||=", None),
+    ("||", Some(Punct::OrOr)),
+    ("|=", None),
+    ("|", None),
+];
+
+const CARETS: [Row; 2] = [("^=", None), ("^", None)];
+
+const QUESTIONS: [Row; 4] = [
+    ("??=", None),
+    ("??", None),
+    ("?.", None),
+    ("?", Some(Punct::Question)),
+];
+
+/// The punctuators that begin with the character, the longer ones first.
+pub(crate) fn beginning_with(first: char) -> &'static [Row]
+    ensures rows { entries_of result.now ≡ entries_for first }
+    ensures falling { is_falling 4 (entries_of result.now) ≡ true }
+{
+    match first {
+        '{' => &[("{", Some(Punct::OpenBrace))],
+        '}' => &[("}", Some(Punct::CloseBrace))],
+        '(' => &[("(", Some(Punct::OpenParen))],
+        ')' => &[(")", Some(Punct::CloseParen))],
+        '[' => &[("[", Some(Punct::OpenBracket))],
+        ']' => &[("]", Some(Punct::CloseBracket))],
+        ';' => &[(";", Some(Punct::Semicolon))],
+        ',' => &[(",", Some(Punct::Comma))],
+        ':' => &[(":", Some(Punct::Colon))],
+        '~' => &[("~", None)],
+        '.' => &DOTS,
+        '<' => &LESS,
+        '>' => &GREATER,
+        '=' => &EQUALS,
+        '!' => &BANGS,
+        '+' => &PLUSES,
+        '-' => &MINUSES,
+        '*' => &STARS,
+        '/' => &SLASHES,
+        '%' => &PERCENTS,
+        '&' => &ANDS,
+        '|' => &ORS,
+        '^' => &CARETS,
+        '?' => &QUESTIONS,
+        _ => &[],
+    }
+}

@@ -1,5 +1,5 @@
 // From the text of a script to its tokens.
-ghost use Rattle.std.specs.Prelude.{◌≡◌, ◌+◌, ◌-◌, ◌<◌, ◌≤◌, ℕ, [], ◌∷◌, ◌++◌, length, IfOk, IfErr, IfSome, IfNone, IsErrOf, OnOk, OnErr, Some, None};
+ghost use Rattle.std.specs.Prelude.{◌≡◌, ◌+◌, ◌-◌, ◌<◌, ◌≤◌, ℕ, [], ◌∷◌, ◌++◌, length, encode_utf8, IfOk, IfErr, IsErrOf, OnOk, OnErr, Some, None};
 ghost use Rattle.std.specs.Str.{chars};
 ghost use Rattle.jo_lex.specs.Tokens as spec;
 ghost use Rattle.jo_lex.specs.Views.{lexeme_of};
@@ -69,9 +69,7 @@ fn add(
     ensures err { IfErr result (IsTooMany (lexeme_of lexeme.entry) start texts.old) }
     ensures kept { OnErr result (texts.new ≡ texts.old) }
 {
-    if tokens.reserve(1).is_err() {
-        return Err(ParseFault::Memory);
-    }
+    tokens.reserve(1)?;
     match kind_of(lexeme, texts) {
         Ok(kind) => {
             tokens.push_reserved(Token { kind, start, end });
@@ -81,39 +79,35 @@ fn add(
     }
 }
 
-// Reads the next piece, and gives what is left, or nothing at the end of the script.
+// Takes the piece that begins with this character, and gives what is left.
 fn advance<'a>(
     alloc: Global,
     text: &'a str,
+    first: char,
+    after: &'a str,
     place: u32,
     tokens: &mut Vec<Token>,
     texts: &mut Texts,
-) -> Result<Option<&'a str>, ParseFault>
-    requires { place + length text.now ≤ 4294967295 }
-    ensures onward { IfOk result (λ left. IfSome left (λ rest.
-        spec.next (at place text.now tokens.old.items texts.old)
+) -> Result<&'a str, ParseFault>
+    requires chars { chars text.now ≡ first ∷ chars after.now }
+    requires bytes { text.now ≡ encode_utf8 first ++ after.now }
+    requires shorter { length after.now < length text.now }
+    requires place { place + length text.now ≤ u32.MAX }
+    ensures onward { IfOk result (λ rest. spec.next (at place text.now tokens.old.items texts.old)
         ≡ spec.onward (at (place + (length text.now - length rest.now)) rest.now
-        tokens.new.items texts.new))) }
-    ensures shorter { IfOk result (λ left. IfSome left (λ rest.
-        length rest.now < length text.now)) }
-    ensures ended { IfOk result (λ left. IfNone left (length text.now ≡ 0)) }
-    ensures tokens_kept { IfOk result (λ left. IfNone left (tokens.new.items ≡ tokens.old.items)) }
-    ensures texts_kept { IfOk result (λ left. IfNone left (texts.new ≡ texts.old)) }
+        tokens.new.items texts.new)) }
+    ensures shorter { IfOk result (λ rest. length rest.now < length text.now) }
     ensures err { IfErr result (FailsAt (at place text.now tokens.old.items texts.old)) }
     ensures kept { OnErr result (texts.new ≡ texts.old) }
 {
-    let Some((first, after)) = first_of(text) else {
-        return Ok(None);
-    };
-    match piece_at(alloc, text, first, after) {
-        Ok(Piece::Gap(rest)) => Ok(Some(rest)),
-        Ok(Piece::Token(lexeme, rest)) => {
+    match piece_at(alloc, text, first, after)? {
+        Piece::Gap(rest) => Ok(rest),
+        Piece::Token(lexeme, rest) => {
             let end = place + (text.len() - rest.len()) as u32;
             add(lexeme, place, end, tokens, texts)?;
-            Ok(Some(rest))
+            Ok(rest)
         }
-        Ok(Piece::Fault(kind)) => Err(ParseFault::Refused(Refusal { kind, place })),
-        Err(_) => Err(ParseFault::Memory),
+        Piece::Fault(kind) => Err(ParseFault::Refused(Refusal { kind, place })),
     }
 }
 
@@ -127,29 +121,23 @@ pub fn tokens(
     base: u32,
     texts: &mut Texts,
 ) -> Result<Vec<Token>, ParseFault>
-    requires { base + length text.now ≤ 4294967295 }
+    requires { base + length text.now ≤ u32.MAX }
     ensures ok { IfOk result (λ tokens.
         spec.IsRead (spec.start base texts.old (chars text.now)) tokens.items texts.new) }
     ensures err { IfErr result (spec.Fails (spec.start base texts.old (chars text.now)) texts.new) }
 {
     let mut tokens = Vec::new(alloc);
     let mut rest = text;
-    'pieces: loop {
+    while let Some((first, after)) = first_of(rest) {
         let place = base + (text.len() - rest.len()) as u32;
-        match advance(alloc, rest, place, &mut tokens, texts) {
-            Ok(Some(left)) => rest = left,
-            Ok(None) => break 'pieces,
-            Err(fault) => return Err(fault),
-        }
+        rest = advance(alloc, rest, first, after, place, &mut tokens, texts)?;
     }
     let end = base + text.len() as u32;
-    let last = Token {
+    tokens.reserve(1)?;
+    tokens.push_reserved(Token {
         kind: TokenKind::End,
         start: end,
         end,
-    };
-    match tokens.push(last) {
-        Ok(()) => Ok(tokens),
-        Err(_) => Err(ParseFault::Memory),
-    }
+    });
+    Ok(tokens)
 }

@@ -29,14 +29,14 @@ pub enum RefusalKind {
 }
 
 /// What is wrong, and its place: how many bytes stand before it.
-#[derive(Clone, Copy, Debug, PartialEq, Eq)]
+#[derive(Clone, Copy, Debug)]
 pub struct Refusal {
     pub kind: RefusalKind,
     pub place: u32,
 }
 
 /// Why a set of scripts was not read.
-#[derive(Clone, Copy, Debug, PartialEq, Eq, Drop, Error)]
+#[derive(Clone, Copy, Debug, Drop, Error)]
 pub enum ParseFault {
     /// No memory was left.
     #[error("out of memory")]

@@ -1,69 +1,35 @@
 // The reserved words.
-ghost use Rattle.std.specs.Prelude.{◌≡◌};
+ghost use Rattle.std.specs.Prelude.{◌≡◌, ◌==◌, length, filter};
 ghost use Rattle.std.specs.List.{list_any};
 ghost use Rattle.std.specs.Str.{bytes_eq};
-ghost use Rattle.jo_lex.specs.Words.{is_reserved};
+ghost use Rattle.jo_lex.specs.Words.{reserved_words, is_reserved};
+ghost use Rattle.jo_lex.specs.Views.{words_of};
 
-/// The words that no variable may have as its name.
-pub const RESERVED: [&str; 57] = [
-    "arguments",
-    "await",
-    "break",
-    "cas",
-    "case",
-    "catch",
-    "class",
-    "const",
-    "continue",
-    "create",
-    "debugger",
-    "default",
-    "delete",
-    "do",
-    "else",
-    "enum",
-    "eval",
-    "export",
-    "extends",
-    "false",
-    "finally",
-    "for",
-    "freeze",
-    "function",
-    "if",
-    "implements",
-    "import",
-    "in",
-    "instanceof",
-    "interface",
-    "let",
-    "new",
-    "null",
-    "package",
-    "print",
-    "printNames",
-    "private",
-    "protected",
-    "public",
-    "recv",
-    "return",
-    "send",
-    "shared",
-    "static",
-    "super",
-    "switch",
-    "this",
-    "throw",
-    "true",
-    "try",
-    "typeof",
-    "undefined",
-    "var",
-    "void",
-    "while",
-    "with",
-    "yield",
-];
+// The reserved words of so many bytes.
+fn of_length(bytes: usize) -> &'static [&'static str]
+    ensures { words_of result.now ≡ filter (λ word. length word == bytes) reserved_words }
+{
+    match bytes {
+        2 => &["do", "if", "in"],
+        3 => &["for", "new", "try", "var", "let", "cas"],
+        4 => &[
+            "case", "else", "enum", "null", "this", "true", "void", "with", "eval", "recv", "send",
+        ],
+        5 => &[
+            "await", "break", "catch", "class", "const", "false", "super", "throw", "while",
+            "yield", "print",
+        ],
+        6 => &[
+            "delete", "export", "import", "return", "switch", "typeof", "static", "public",
+            "create", "freeze", "shared",
+        ],
+        7 => &["default", "extends", "finally", "package", "private"],
+        8 => &["continue", "debugger", "function"],
+        9 => &["interface", "protected", "arguments", "undefined"],
+        10 => &["instanceof", "implements", "printNames"],
+        _ => &[],
+    }
+}
 
 fn is_among(words: &[&str], word: &str) -> bool
     ensures { result ≡ list_any (λ other. bytes_eq other.now word.now) words.now }
@@ -71,10 +37,9 @@ fn is_among(words: &[&str], word: &str) -> bool
     words.iter().any(|other| *other == word)
 }
 
-/// Whether the word is reserved.
-#[tactic(auto, unfolding(crate::specs::Words::is_reserved))]
+/// Whether the word is one that no variable may have as its name.
 pub(crate) fn is_reserved(word: &str) -> bool
     ensures { result ≡ is_reserved word.now }
 {
-    is_among(&RESERVED, word)
+    is_among(of_length(word.len()), word)
 }

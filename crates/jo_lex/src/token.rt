@@ -4,7 +4,7 @@ use crate::Punct;
 use jo_value::TextId;
 
 /// What a token is. Words and text literals are named by their numbers in the table of texts.
-#[derive(Clone, Copy, Debug, PartialEq, Eq)]
+#[derive(Clone, Copy, PartialEq, Eq)]
 pub enum TokenKind {
     /// A word that is not reserved.
     Word(TextId),
@@ -21,7 +21,7 @@ pub enum TokenKind {
 }
 
 /// A token and its place: the bytes before it, and those before what follows it.
-#[derive(Clone, Copy, Debug, PartialEq, Eq)]
+#[derive(Clone, Copy)]
 pub struct Token {
     pub kind: TokenKind,
     pub start: u32,

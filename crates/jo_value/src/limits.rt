@@ -6,6 +6,12 @@ pub const MOST_INPUT: usize = 1_048_576;
 /// The most scripts of a set.
 pub const MOST_SCRIPTS: usize = 8;
 
+/// The turns that the loops of a script may take, where nothing else is said.
+pub const DEFAULT_TURNS: u32 = 1_000_000;
+
+/// The most turns that may be asked for.
+pub const MOST_TURNS: u32 = 1_000_000_000;
+
 /// The most constructs that are open at a token.
 pub const MOST_OPEN: u8 = 64;
 

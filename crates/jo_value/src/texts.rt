@@ -18,10 +18,20 @@ pub enum InternFault {
     TooManyTexts,
 }
 
+impl From<AllocError> for InternFault {
+    ghost use Rattle.jo_value.specs.declared.texts.InternFault.TheVariants.{Memory};
+
+    ghost from_gives = { λ _ fault. fault ≡ Memory };
+
+    fn from(_: AllocError) -> InternFault {
+        InternFault::Memory
+    }
+}
+
 /// A table of texts. A text's number is its place in the table, from 0, and interning gives equal texts one number.
 ///
 /// Contracts see the list of the texts, each as its bytes.
-#[derive(Debug, Drop)]
+#[derive(Drop)]
 pub struct Texts {
     alloc: Global,
     texts: IndexSet<String>,
@@ -67,10 +77,8 @@ impl Texts {
         if next == MOST_TEXTS {
             return Err(InternFault::TooManyTexts);
         }
-        match self.add(text) {
-            Ok(()) => Ok(TextId(next as u16)),
-            Err(_) => Err(InternFault::Memory),
-        }
+        self.add(text)?;
+        Ok(TextId(next as u16))
     }
 
     /// The number of the text, where it is there.

@@ -1,0 +1,107 @@
+-- The punctuators that begin alike: the longest of all is the longest of those that a script may begin with.
+use Rattle.std.proofs.Common.{◌≡◌, ◌<◌, ◌≤◌, ℕ, Bool, true, false, cond, nat_lt, ◌==◌, ◌⊎◌, inl, inr, List, [], ◌∷◌, length, take, filter, Option, Some, None, refl, sym, ap, ◌∙◌, arith}
+use Rattle.std.proofs.lemmas.Bool.{and_parts, eqb-true, false_from_ne_true, ltb-true, lt-ltb, le-ltb, cases_lt, cond_both}
+use Rattle.std.specs.List.{list_any, list_all}
+use Rattle.jo_lex.specs.Punctuators.{Entry, table, fits, longer, longest, punctuator_of}
+use Rattle.jo_lex.specs.Views.{may_begin, put, longer_first, entries_for}
+
+-- ---- what the punctuators begin with
+
+abbrev pub firsts : List ℕ
+firsts = 123 ∷ 125 ∷ 40 ∷ 41 ∷ 91 ∷ 93 ∷ 59 ∷ 44 ∷ 58 ∷ 126 ∷ 46 ∷ 60 ∷ 62 ∷ 61 ∷ 33 ∷ 43 ∷ 45 ∷ 42 ∷ 47 ∷ 37 ∷ 38 ∷ 124 ∷ 94 ∷ 63 ∷ []
+
+is_among : ℕ → Bool
+is_among c = list_any (λ d. c == d) firsts
+
+begins_among : List ℕ → Bool
+begins_among [] = false
+begins_among (d ∷ ds) = is_among d
+
+table-begins : list_all (λ p. begins_among p.0) table ≡ true
+unfolding table begins_among is_among
+table-begins = refl
+
+may_begin-other : (c : ℕ) (p : List ℕ) → is_among c ≡ false → begins_among p ≡ true → may_begin c p ≡ false
+unfolding begins_among
+may_begin-other c [] e b = cc
+may_begin-other c (d ∷ ds) e b = false_from_ne_true (d == c) (λ t. let same : d ≡ c = eqb-true d c t in let clash : true ≡ false = sym b ∙ ap is_among same ∙ e in cc)
+
+filter-other : (c : ℕ) (ps : List Entry) → is_among c ≡ false → list_all (λ p. begins_among p.0) ps ≡ true → filter (λ p. may_begin c p.0) ps ≡ []
+filter-other c [] e b = refl
+filter-other c (p ∷ ps) e b =
+    let parts = and_parts (begins_among p.0) (list_all (λ q. begins_among q.0) ps) b in
+    rw (may_begin-other c p.0 e parts.0) (filter-other c ps e parts.1)
+
+-- no punctuator begins with another character
+pub entries_for-other : (c : ℕ) → list_any (λ d. c == d) firsts ≡ false → [] ≡ entries_for c
+unfolding entries_for is_among
+entries_for-other c e = ap longer_first (sym (filter-other c table e table-begins))
+
+-- ---- the longest, of those that begin alike
+
+fits-other : (c : ℕ) (p cs : List ℕ) → may_begin c p ≡ false → fits p (c ∷ cs) ≡ false
+fits-other c [] cs e = cc
+fits-other c (d ∷ ds) cs e = rw e
+
+longest-filter : (c : ℕ) (cs : List ℕ) (ps : List Entry) → longest (filter (λ p. may_begin c p.0) ps) (c ∷ cs) ≡ longest ps (c ∷ cs)
+longest-filter c cs [] = refl
+longest-filter c cs (p ∷ ps) = step (may_begin c p.0) refl (longest-filter c cs ps)
+  where
+    step : (b : Bool) → may_begin c p.0 ≡ b → longest (filter (λ q. may_begin c q.0) ps) (c ∷ cs) ≡ longest ps (c ∷ cs) → longest (filter (λ q. may_begin c q.0) (p ∷ ps)) (c ∷ cs) ≡ longest (p ∷ ps) (c ∷ cs)
+    step true e ih = rw e (ap (λ found. cond (fits p.0 (c ∷ cs)) (Some (longer p found)) found) ih)
+    step false e ih = rw (e, fits-other c p.0 cs e) ih
+
+-- ---- the longest, in whatever order
+
+longer-other : (p q : Entry) → length p.0 < length q.0 → longer p (Some q) ≡ q
+longer-other p q lt = rw (lt-ltb (length p.0) (length q.0) lt) refl
+
+longer-same : (p q : Entry) → length q.0 ≤ length p.0 → longer p (Some q) ≡ p
+longer-same p q le = rw (le-ltb (length p.0) (length q.0) le) refl
+
+longer-within : (p q r : Entry) → length p.0 ≤ length q.0 → length r.0 ≤ length q.0 → length (longer p (Some r)).0 ≤ length q.0
+longer-within p q r le h = cond_both (nat_lt (length p.0) (length r.0)) r p (λ x. length x.0 ≤ length q.0) (λ _. h) (λ _. le)
+
+-- a longer entry may go before
+longer-swap : (p q : Entry) (found : Option Entry) → length p.0 < length q.0 → longer q (Some (longer p found)) ≡ longer p (Some (longer q found))
+longer-swap p q None lt = longer-same q p (omega arith) ∙ sym (longer-other p q lt)
+longer-swap p q (Some r) lt = step (cases_lt (length q.0) (length r.0))
+  where
+    step : (length q.0 < length r.0) ⊎ (length r.0 ≤ length q.0) → longer q (Some (longer p (Some r))) ≡ longer p (Some (longer q (Some r)))
+    step (inl h) =
+        let inner = longer-other p r (omega arith) in
+        let outer = longer-other q r h in
+        ap (λ x. longer q (Some x)) inner ∙ outer ∙ sym (ap (λ x. longer p (Some x)) outer ∙ inner)
+    step (inr h) =
+        longer-same q (longer p (Some r)) (longer-within p q r (omega arith) h)
+        ∙ sym (ap (λ x. longer p (Some x)) (longer-same q r h) ∙ longer-other p q lt)
+
+swap-step : (p q : Entry) (a b : Bool) (found : Option Entry) → length p.0 < length q.0
+    → cond b (Some (longer q (cond a (Some (longer p found)) found))) (cond a (Some (longer p found)) found) ≡ cond a (Some (longer p (cond b (Some (longer q found)) found))) (cond b (Some (longer q found)) found)
+swap-step p q true true found lt = ap Some (longer-swap p q found lt)
+swap-step p q true false found lt = refl
+swap-step p q false true found lt = refl
+swap-step p q false false found lt = refl
+
+longest-put : (p : Entry) (ps : List Entry) (cs : List ℕ) → longest (put p ps) cs ≡ longest (p ∷ ps) cs
+longest-put p [] cs = refl
+longest-put p (q ∷ qs) cs = step (nat_lt (length p.0) (length q.0)) refl (longest-put p qs cs)
+  where
+    step : (b : Bool) → nat_lt (length p.0) (length q.0) ≡ b → longest (put p qs) cs ≡ longest (p ∷ qs) cs → longest (put p (q ∷ qs)) cs ≡ longest (p ∷ q ∷ qs) cs
+    step true e ih =
+        rw e (ap (λ found. cond (fits q.0 cs) (Some (longer q found)) found) ih
+        ∙ swap-step p q (fits p.0 cs) (fits q.0 cs) (longest qs cs) (ltb-true (length p.0) (length q.0) e))
+    step false e ih = rw e refl
+
+longest-longer_first : (ps : List Entry) (cs : List ℕ) → longest (longer_first ps) cs ≡ longest ps cs
+longest-longer_first [] cs = refl
+longest-longer_first (p ∷ ps) cs = longest-put p (longer_first ps) cs ∙ ap (λ found. cond (fits p.0 cs) (Some (longer p found)) found) (longest-longer_first ps cs)
+
+longest-entries_for : (c : ℕ) (cs : List ℕ) → longest (entries_for c) (c ∷ cs) ≡ punctuator_of (c ∷ cs)
+unfolding entries_for punctuator_of
+longest-entries_for c cs = longest-longer_first (filter (λ p. may_begin c p.0) table) (c ∷ cs) ∙ longest-filter c cs table
+
+-- the longest of all is the longest of those that a script with this first character may begin with
+pub punctuator_of-first : (c : ℕ) (cs : List ℕ) → take 1 cs ≡ c ∷ [] → punctuator_of cs ≡ longest (entries_for c) cs
+punctuator_of-first c [] e = cc
+punctuator_of-first c (d ∷ ds) e = let same : d ≡ c = cc in rw same (sym (longest-entries_for c ds))
