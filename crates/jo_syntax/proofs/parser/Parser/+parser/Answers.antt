@@ -1,10 +1,10 @@
 use Rattle.std.proofs.Common.{rules, arith}
 use Rattle.std.proofs.lemmas.Grind.{common_steps}
 use Rattle.jo_tree.specs.Views.{accesses_list, links_list, props_list}
-use Rattle.jo_grammar.specs.Read.{under, read, links_from, accesses_from, props_from, expect}
+use Rattle.jo_grammar.specs.Read.{under, read, expect, accesses_from, assignment, chains, condition, group_after, links_from, object_after, only_member, prefixed, primary, props_from}
 use Rattle.jo_syntax.proofs.Lists.{accesses-with-name, accesses-with-key, links-with, props-with}
 use Rattle.jo_syntax.proofs.Rooms.{one_more}
-use Rattle.jo_syntax.proofs.Rules.{reading}
+use Rattle.jo_syntax.proofs.Rules.{reading, entering, operands}
 use Rattle.jo_syntax.proofs.parser.Parser.+parser.Goals as goal
 
 pub links-returns-then-rank-level : goal.links-returns-then-rank-level
@@ -66,3 +66,139 @@ unfolding accesses_from
 accesses-loop-turn-preserved t c =
     let e = one_more (λ n. accesses_from c.args.room (under c.args.room) n (accesses_list c.loop-turn.accesses) c.loop-turn.self.tokens) _ c.loop-turn._turn c.loop-turn-test.true c.loop-turn.invariant in
     grind (arith, common_steps, reading, accesses-with-name, accesses-with-key)
+
+pub accesses-returns-in_err-name : goal.accesses-returns-in_err-name
+unfolding accesses_from
+accesses-returns-in_err-name t c = grind (arith, common_steps, reading)
+
+pub accesses-returns-in_err-index : goal.accesses-returns-in_err-index
+unfolding accesses_from
+accesses-returns-in_err-index t c = grind (arith, common_steps, reading)
+
+pub accesses-returns-else-sees-2 : goal.accesses-returns-else-sees-2
+unfolding accesses_from
+accesses-returns-else-sees-2 t c = grind (arith, common_steps, reading)
+
+pub bracket-returns-in_ok-ended-in-OpenParen : goal.bracket-returns-in_ok-ended-in-OpenParen
+unfolding group_after
+bracket-returns-in_ok-ended-in-OpenParen t c = grind (arith, common_steps, reading)
+
+pub bracket-returns-in_ok-new-in-OpenBrace : goal.bracket-returns-in_ok-new-in-OpenBrace
+unfolding group_after
+bracket-returns-in_ok-new-in-OpenBrace t c = grind (arith, common_steps, reading)
+
+pub cas-returns-in_err-arguments : goal.cas-returns-in_err-arguments
+cas-returns-in_err-arguments t c = grind (arith, common_steps, entering)
+
+pub cas-returns : goal.cas-returns
+cas-returns t c = grind (arith, common_steps, entering)
+
+pub chain-returns-in_err-unary : goal.chain-returns-in_err-unary
+unfolding chains
+chain-returns-in_err-unary t c = grind (arith, common_steps, reading)
+
+pub chain-returns-then-level-eq-UNARY_LEVEL : goal.chain-returns-then-level-eq-UNARY_LEVEL
+unfolding chains
+chain-returns-then-level-eq-UNARY_LEVEL t c = grind (arith, common_steps, reading)
+
+pub expression-returns-in_err-condition : goal.expression-returns-in_err-condition
+unfolding assignment
+expression-returns-in_err-condition t c = grind (arith, common_steps, reading)
+
+pub expression-returns-then-rank-ne-ASSIGNMENT : goal.expression-returns-then-rank-ne-ASSIGNMENT
+unfolding assignment
+expression-returns-then-rank-ne-ASSIGNMENT t c = grind (arith, common_steps, reading)
+
+pub expression-returns-in_err-assignment-in-Ok : goal.expression-returns-in_err-assignment-in-Ok
+unfolding assignment
+expression-returns-in_err-assignment-in-Ok t c = grind (arith, common_steps, reading)
+
+pub expression-returns-in_ok-assignment-in-Ok : goal.expression-returns-in_ok-assignment-in-Ok
+unfolding assignment
+expression-returns-in_ok-assignment-in-Ok t c = grind (arith, common_steps, reading)
+
+pub expression-returns-in-Err : goal.expression-returns-in-Err
+unfolding assignment
+expression-returns-in-Err t c = grind (arith, common_steps, reading)
+
+pub keyword-returns : goal.keyword-returns
+keyword-returns t c = grind (arith, common_steps, reading)
+
+pub member-returns-in_err-member : goal.member-returns-in_err-member
+unfolding only_member
+member-returns-in_err-member t c = grind (arith, common_steps, reading)
+
+pub member-returns-in-Member : goal.member-returns-in-Member
+unfolding only_member
+member-returns-in-Member t c = grind (arith, common_steps, reading)
+
+pub member-returns : goal.member-returns
+unfolding only_member
+member-returns t c = grind (arith, common_steps, reading)
+
+pub object-returns-then-sees : goal.object-returns-then-sees
+unfolding object_after
+object-returns-then-sees t c = grind (arith, common_steps, reading)
+
+pub operand-returns : goal.operand-returns
+operand-returns t c = grind (arith, common_steps, operands)
+
+pub primary-returns-in-Number : goal.primary-returns-in-Number
+unfolding primary
+primary-returns-in-Number t c = grind (arith, common_steps, reading)
+
+pub primary-returns-in-Text : goal.primary-returns-in-Text
+unfolding primary
+primary-returns-in-Text t c = grind (arith, common_steps, reading)
+
+pub primary-returns-in-Ident : goal.primary-returns-in-Ident
+unfolding primary
+primary-returns-in-Ident t c = grind (arith, common_steps, reading)
+
+pub unary-returns-in_err-inner : goal.unary-returns-in_err-inner
+unfolding prefixed
+unary-returns-in_err-inner t c = grind (arith, common_steps, reading)
+
+pub unary-returns-in_err-operand : goal.unary-returns-in_err-operand
+unfolding prefixed
+unary-returns-in_err-operand t c = grind (arith, common_steps, reading)
+
+pub unary-returns-in-Some : goal.unary-returns-in-Some
+unfolding prefixed
+unary-returns-in-Some t c = grind (arith, common_steps, reading)
+
+pub unary-returns-in_err-inner-2 : goal.unary-returns-in_err-inner-2
+unfolding prefixed
+unary-returns-in_err-inner-2 t c = grind (arith, common_steps, reading)
+
+pub unary-returns-in_err-member : goal.unary-returns-in_err-member
+unfolding prefixed
+unary-returns-in_err-member t c = grind (arith, common_steps, reading)
+
+pub unary-returns-then-sees_keyword : goal.unary-returns-then-sees_keyword
+unfolding prefixed
+unary-returns-then-sees_keyword t c = grind (arith, common_steps, reading)
+
+pub unary-returns-in_err-postfix : goal.unary-returns-in_err-postfix
+unfolding prefixed
+unary-returns-in_err-postfix t c = grind (arith, common_steps, reading)
+
+pub unary-returns : goal.unary-returns
+unfolding prefixed
+unary-returns t c = grind (arith, common_steps, reading)
+
+pub condition-returns-in_err-condition : goal.condition-returns-in_err-condition
+unfolding condition
+condition-returns-in_err-condition t c = grind (arith, common_steps, reading)
+
+pub condition-returns-then-not-sees : goal.condition-returns-then-not-sees
+unfolding condition
+condition-returns-then-not-sees t c = grind (arith, common_steps, reading)
+
+pub condition-returns-in_err-new : goal.condition-returns-in_err-new
+unfolding condition
+condition-returns-in_err-new t c = grind (arith, common_steps, reading)
+
+pub condition-returns : goal.condition-returns
+unfolding condition
+condition-returns t c = grind (arith, common_steps, reading)
