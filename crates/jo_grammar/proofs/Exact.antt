@@ -2,10 +2,9 @@
 use Rattle.std.proofs.Common.{◌≡◌, ◌==◌, eqb, inl, inr, Bool, true, false, if◌then◌else◌, zero, suc, ℕ, ◌+◌, ◌-◌, ◌≤◌, ◌<◌, List, sym, subst, refl, arith}
 use Rattle.std.proofs.lemmas.Bool.{eqb-true, eq-eqb}
 use Rattle.jo_grammar.specs.declared.terminal.Terminal.{Terminal}
-use Rattle.jo_grammar.specs.Expressions.{IsExpression}
 use Rattle.jo_grammar.specs.Read.{Below, only_member, assignment, chains, at_level, no_room, read}
 use Rattle.jo_grammar.proofs.Outcome.{Any, Outcome}
-use Rattle.jo_grammar.proofs.Levels.{level_language, Above, IsLevel, ReadsAt, outcome-at, at-outcome}
+use Rattle.jo_grammar.proofs.Levels.{level_language, Above, IsLevel, ReadsAt, at-outcome}
 use Rattle.jo_grammar.proofs.Operands.{outcome-only_member}
 use Rattle.jo_grammar.proofs.Chains.{outcome-chains}
 use Rattle.jo_grammar.proofs.Assignments.{outcome-assignment}
@@ -40,7 +39,3 @@ pub outcome-read : (room limit d : ℕ) → d + room ≡ limit → ReadsAt limit
 unfolding read
 outcome-read zero limit d sum ins l h ts = outcome-level limit d zero sum no_room (λ pos. absurd (omega arith)) ins l h ts
 outcome-read (suc n) limit d sum ins l h ts = outcome-level limit d (suc n) sum (read n) (λ pos ins l h ts. outcome-read n limit (d + 1) (omega arith) ins l h ts) ins l h ts
-
--- any expression
-pub outcome-expression : (room limit d : ℕ) → d + room ≡ limit → (ins : Bool) (ts : List Terminal) → Outcome (IsExpression ins d) (Above ins 1) Any limit ts (read room ins 1 ts)
-outcome-expression room limit d sum ins ts = outcome-at ins 1 d limit ts (read room ins 1 ts) (λ e. omega arith) (outcome-read room limit d sum ins 1 (inl refl) ts)

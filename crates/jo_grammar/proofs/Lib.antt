@@ -9,7 +9,6 @@ pub mod Assignments
 pub mod Exact
 pub mod Accepted
 pub mod Exclusive
-pub mod Whole
 pub mod First
 pub mod Separated
 pub mod Declarations

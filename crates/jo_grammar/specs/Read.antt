@@ -354,16 +354,3 @@ read (suc n) ins l ts = at_level (suc n) (read n) ins l ts
 abbrev pub under : ℕ → Below
 under zero = no_room
 under (suc n) = read n
-
--- ---- the whole of the tokens
-
-abbrev pub whole_end : Tree → List Terminal → Result Tree (Fault × List Terminal)
-whole_end e [] = Ok e
-whole_end e (c ∷ r) = Err (unexpected, c ∷ r)
-
-abbrev pub whole_of : Reading Tree → Result Tree (Fault × List Terminal)
-whole_of (Ok x) = whole_end x.0 x.1
-whole_of (Err f) = Err f
-
-unfoldable pub whole : ℕ → Bool → List Terminal → Result Tree (Fault × List Terminal)
-whole limit ins ts = whole_of (read limit ins 1 ts)

@@ -4,8 +4,6 @@
 #[cfg(test)]
 mod cutting;
 #[cfg(test)]
-mod expressions;
-#[cfg(test)]
 mod judging;
 #[cfg(test)]
 mod lexing;

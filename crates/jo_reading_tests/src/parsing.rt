@@ -84,6 +84,24 @@ fn scripts_are_accepted_or_refused_at_a_place(rt: HostRuntime) -> Result<(), Fai
         ("; }", Outcome::Refused(unexpected, 2)),
         ("; {", Outcome::Refused(unexpected, 3)),
         ("1 2 #", Outcome::Refused(RefusalKind::BadToken, 4)),
+        ("a.b[c] = x += -1;", Outcome::Accepted),
+        ("a || b && c === d < e + f * !g;", Outcome::Accepted),
+        (
+            "a - b - c ? {x: 1, 'y': 2, 3: z,} : cas(a, 'k', null, true);",
+            Outcome::Accepted,
+        ),
+        ("delete a.if, __proto__;", Outcome::Refused(unexpected, 11)),
+        ("__proto__.__proto__;", Outcome::Accepted),
+        ("'x' in a;", Outcome::Accepted),
+        ("for ('x' in a;;) ;", Outcome::Refused(unexpected, 9)),
+        ("for (('x' in a);;) ;", Outcome::Accepted),
+        ("({__proto__: 1});", Outcome::Refused(unexpected, 2)),
+        ("({,});", Outcome::Refused(unexpected, 2)),
+        ("(a) = 1;", Outcome::Refused(unexpected, 4)),
+        ("delete (a.b);", Outcome::Refused(unexpected, 12)),
+        ("delete a;", Outcome::Refused(unexpected, 8)),
+        ("var;", Outcome::Refused(unexpected, 0)),
+        ("();", Outcome::Refused(unexpected, 1)),
     ];
     for (script, want) in rows {
         assert!(rt; script.len() < 100);
@@ -122,6 +140,7 @@ fn constructs_nest_64_deep(rt: HostRuntime) -> Result<(), Fail> {
         ("1?1:", "1", "", 64, ";", Outcome::Accepted),
         ("1+(", "1", ")", 32, ";", Outcome::Accepted),
         ("!", "x", "", 64, ";", Outcome::Accepted),
+        ("!", "x", "", 65, ";", Outcome::Refused(deep, 64)),
         ("cas(1,1,1,", "1", ")", 64, ";", Outcome::Accepted),
     ];
     for (front, middle, back, times, end, want) in rows {

@@ -1,6 +1,6 @@
 -- Readings that methods do in parts.
 use Rattle.std.specs.Prelude.{if◌then◌else◌}
-use Rattle.std.proofs.Common.{◌≡◌, ℕ, zero, suc, Bool, true, false, List, Option, None, Some, Ok, Err, refl}
+use Rattle.std.proofs.Common.{◌≡◌, ◌∙◌, ℕ, zero, suc, Bool, true, false, List, Option, None, Some, Result, Ok, Err, refl, sym, ap}
 use Rattle.jo_lex.specs.declared.punct.Punct.TheVariants as p
 use Rattle.jo_tree.specs.declared.keyword.Keyword.TheVariants as kw
 use Rattle.jo_tree.specs.Trees.{Tree, Statement, choose, when, either}
@@ -9,7 +9,9 @@ use Rattle.jo_grammar.specs.declared.terminal.Terminal.{Terminal}
 use Rattle.jo_grammar.specs.declared.terminal.Terminal.TheVariants as t
 use Rattle.jo_grammar.specs.Read.{Reading, Below, and_then, expect, next, open_at, sees, choice}
 use Rattle.jo_grammar.specs.ReadStatements.{Within, else_after}
-use Rattle.jo_syntax.specs.Outcomes.{choices}
+use Rattle.jo_syntax.specs.Outcomes.{Makes, Reads, choices}
+use Rattle.jo_syntax.specs.declared.stop.Stop.{Stop}
+use Rattle.jo_syntax.specs.declared.stop.Stop.TheVariants as s
 use Rattle.jo_syntax.specs.ScriptOutcomes.{else_at}
 
 -- ---- a choice
@@ -52,3 +54,11 @@ pub else-in-parts : (within : Within) (loops : Bool) (c : Tree) (x : Statement) 
     → else_after within loops c x ts ≡ and_then (else_at within loops ts) (λ o r. Ok (if_tree c x o, r))
 unfolding else_after
 else-in-parts within loops c x ts = else-seen within loops c x ts (sees (t.Keyword kw.Else) ts)
+
+-- ---- a tree that is made at the end
+
+pub makes-reads : {X : Type 0} (view : X → Tree) (outcome : Reading Tree) (tree : Tree) (new : List Terminal) (r : Result X Stop) → Makes view tree r → outcome ≡ Ok (tree, new) → Reads view outcome r new
+makes-reads view outcome tree new (Ok x) m e = e ∙ ap (λ v. Ok (v, new)) (sym m)
+makes-reads view outcome tree new (Err s.Memory) m e = tt
+makes-reads view outcome tree new (Err s.Unexpected) m e = cc
+makes-reads view outcome tree new (Err s.NestedTooDeep) m e = cc

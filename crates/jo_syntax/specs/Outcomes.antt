@@ -24,6 +24,11 @@ abbrev pub Reads : {X A : Type 0} → (X → A) → Reading A → Result X Stop 
 Reads view outcome (Ok x) new = outcome ≡ Ok (view x, new)
 Reads view outcome (Err f) new = Fails outcome f new
 
+-- the tree is made, unless memory fails
+abbrev pub Makes : {X : Type 0} → (X → Tree) → Tree → Result X Stop → Type 0
+Makes view tree (Ok x) = view x ≡ tree
+Makes view tree (Err f) = f ≡ s.Memory
+
 -- a property of an object literal
 abbrev pub prop_tree : Prop → PropKey × Tree
 prop_tree x = (x.key, expr_tree x.value)

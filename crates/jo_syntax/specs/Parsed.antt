@@ -1,4 +1,4 @@
--- What the parser answers for the tokens of one script or one expression.
+-- What the parser answers for the tokens of a script.
 use Rattle.std.specs.Prelude.{◌≡◌, ℕ, ◌-◌, List, length, slice_get, Result, Ok, Err}
 use Rattle.std.specs.Option.{option_map_or}
 use Rattle.jo_lex.specs.declared.refusal.ParseFault.{ParseFault}

@@ -16,9 +16,9 @@ fn start_at(tokens: &[Token], index: usize) -> u32
     }
 }
 
-/// The refusal at the token from which so many terminals are left. There are never more left than
-/// there were.
-pub(crate) fn refused(
+// The refusal at the token from which so many terminals are left. There are never more left than
+// there were.
+fn refused(
     kind: RefusalKind,
     tokens: &[Token],
     terminals: &[Terminal],

@@ -1,11 +1,13 @@
 // Trees from their parts.
 ghost use Rattle.std.specs.Prelude.{◌≡◌, true, false, IfOk, IfErr};
 ghost use Rattle.jo_grammar.specs.Read as spec;
+ghost use Rattle.jo_syntax.specs.Outcomes.{Makes};
 ghost use Rattle.jo_tree.specs.Views.{accesses_list, chain_tree, cond_tree, links_list, postfix_tree, primary_tree, target_tree, unary_tree};
 
+use crate::stop::Stop;
 use jo_tree::{Access, Binary, Chain, Cond, Link, Member, Postfix, Primary, Target, Unary};
 use sqlite_items::{Boxed, Items};
-use std::alloc::{AllocError, Global};
+use std::alloc::Global;
 
 /// A primary expression with what is accessed of it.
 #[tactic(auto, using(crate::proofs::Rules::trees))]
@@ -13,8 +15,8 @@ pub(crate) fn accessed(
     alloc: Global,
     base: Primary,
     accesses: Items<Access>,
-) -> Result<Postfix, AllocError>
-    ensures { IfOk result (λ postfix. postfix_tree postfix ≡ spec.member_of (primary_tree base) (accesses_list accesses)) }
+) -> Result<Postfix, Stop>
+    ensures { Makes postfix_tree (spec.member_of (primary_tree base) (accesses_list accesses)) result }
 {
     if accesses.is_empty() {
         return Ok(Postfix::Primary(base));
@@ -30,8 +32,8 @@ pub(crate) fn joined(
     level: u8,
     first: Chain,
     links: Items<Link>,
-) -> Result<Chain, AllocError>
-    ensures { IfOk result (λ chain. chain_tree chain ≡ spec.chain_of level (chain_tree first) (links_list links)) }
+) -> Result<Chain, Stop>
+    ensures { Makes chain_tree (spec.chain_of level (chain_tree first) (links_list links)) result }
 {
     if links.is_empty() {
         return Ok(first);

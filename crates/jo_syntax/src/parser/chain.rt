@@ -30,7 +30,7 @@ impl<'a> Parser<'a> {
         }
         let first = self.chain(room, ins, level + 1)?;
         let links = self.links(room, ins, level)?;
-        Ok(joined(self.alloc, level, first, links)?)
+        joined(self.alloc, level, first, links)
     }
 
     #[cycle(parser)]

@@ -21,7 +21,7 @@ impl<'a> Parser<'a> {
     {
         let base = self.primary(room)?;
         let accesses = self.accesses(room)?;
-        Ok(accessed(self.alloc, base, accesses)?)
+        accessed(self.alloc, base, accesses)
     }
 
     #[cycle(parser)]

@@ -1,8 +1,9 @@
-use Rattle.std.proofs.Common.{rules, arith}
+use Rattle.std.proofs.Common.{rules, arith, ◌-◌}
 use Rattle.std.proofs.lemmas.Grind.{common_steps}
-use Rattle.jo_tree.specs.Views.{accesses_list, links_list, props_list}
-use Rattle.jo_grammar.specs.Read.{under, read, expect, accesses_from, assignment, chains, condition, group_after, links_from, object_after, only_member, prefixed, primary, props_from}
+use Rattle.jo_tree.specs.Views.{accesses_list, chain_tree, links_list, props_list}
+use Rattle.jo_grammar.specs.Read.{under, chain_of, read, expect, accesses_from, assignment, chains, condition, group_after, links_from, object_after, only_member, prefixed, primary, props_from}
 use Rattle.jo_syntax.proofs.Lists.{accesses-with-name, accesses-with-key, links-with, props-with}
+use Rattle.jo_syntax.proofs.Parts.{makes-reads}
 use Rattle.jo_syntax.proofs.Rooms.{one_more}
 use Rattle.jo_syntax.proofs.Rules.{reading, entering, operands}
 use Rattle.jo_syntax.proofs.parser.Parser.+parser.Goals as goal
@@ -202,3 +203,10 @@ condition-returns-in_err-new t c = grind (arith, common_steps, reading)
 pub condition-returns : goal.condition-returns
 unfolding condition
 condition-returns t c = grind (arith, common_steps, reading)
+
+pub chain-returns : goal.chain-returns
+unfolding chains
+chain-returns t c =
+    let args = c.args in
+    makes-reads chain_tree (chains args.room (under args.room) args.ins (9 - args.level) args.level args.self.now.tokens) (chain_of args.level (chain_tree c.in_ok-first.first) (links_list c.in_ok-links.links)) c.links.new.self.tokens c.joined.result c.joined.ensures
+    (grind (arith, reading))
