@@ -10,7 +10,7 @@ use crate::cut::cut;
 use jo_lex::{ParseFault, Refusal, RefusalKind, Token, tokens};
 use jo_pieces::Piece;
 use jo_value::Texts;
-use std::alloc::Global;
+use std::alloc::{AllocError, Global};
 
 /// The tokens of each script, and the table of their texts.
 #[derive(Drop)]
@@ -33,9 +33,7 @@ fn token_lists(
     let mut lists = Vec::new(alloc);
     for piece in pieces {
         let found = tokens(alloc, piece.text, piece.start, texts)?;
-        if lists.push(found).is_err() {
-            return Err(ParseFault::Memory);
-        }
+        lists.push(found).map_err(AllocError::from)?;
     }
     Ok(lists)
 }

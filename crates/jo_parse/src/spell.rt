@@ -11,7 +11,7 @@ use jo_lex::{ParseFault, Token};
 use jo_syntax::parse_script;
 use jo_tree::Script;
 use jo_value::Texts;
-use std::alloc::Global;
+use std::alloc::{AllocError, Global};
 
 /// The trees of the scripts, and the table of their texts.
 #[derive(Drop)]
@@ -28,9 +28,7 @@ fn scripts(alloc: Global, lists: &[Vec<Token>], texts: &Texts) -> Result<Vec<Scr
     let mut scripts = Vec::new(alloc);
     for tokens in lists {
         let script = parse_script(alloc, tokens.as_slice(), texts)?;
-        if scripts.push(script).is_err() {
-            return Err(ParseFault::Memory);
-        }
+        scripts.push(script).map_err(AllocError::from)?;
     }
     Ok(scripts)
 }
