@@ -2,12 +2,6 @@
 #![tactic(auto)]
 
 #[cfg(test)]
-mod cutting;
-#[cfg(test)]
-mod judging;
-#[cfg(test)]
 mod lexing;
-#[cfg(test)]
-mod parsing;
 #[cfg(test)]
 mod sets;
