@@ -18,12 +18,7 @@ fn start_at(tokens: &[Token], index: usize) -> u32
 
 // The refusal at the token from which so many terminals are left. There are never more left than
 // there were.
-fn refused(
-    kind: RefusalKind,
-    tokens: &[Token],
-    terminals: &[Terminal],
-    left: usize,
-) -> ParseFault
+fn refused(kind: RefusalKind, tokens: &[Token], terminals: &[Terminal], left: usize) -> ParseFault
     ensures { result ≡ fault.Refused record { kind = kind; place = spec.start_at tokens.now (length terminals.now - left) } }
 {
     let place = start_at(tokens, terminals.len().saturating_sub(left));

@@ -1,4 +1,4 @@
-use Rattle.std.proofs.Common.{rules, arith}
+use Rattle.std.proofs.Common.{arith}
 use Rattle.std.proofs.lemmas.Grind.{common_steps}
 use Rattle.jo_tree.specs.ScriptViews.{bindings_list}
 use Rattle.jo_tree.proofs.ScriptShapes.{bindings_list-push}
