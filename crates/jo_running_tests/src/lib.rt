@@ -2,15 +2,11 @@
 #![tactic(auto)]
 
 #[cfg(test)]
-mod answers;
-#[cfg(test)]
 mod ends;
 #[cfg(test)]
-mod plain_heap;
+mod heaps;
 #[cfg(test)]
 mod runs;
-#[cfg(test)]
-mod small_form;
 #[cfg(test)]
 mod walking;
 #[cfg(test)]

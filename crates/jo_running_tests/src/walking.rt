@@ -1,4 +1,4 @@
-// Whole scripts, with ample memory.
+// Steps that no script of the small form has so many of, with ample memory.
 use jo_form::{Form, Step};
 use jo_model::Outcome;
 use jo_value::{NameId, Texts};
@@ -14,22 +14,6 @@ fn print(alloc: Global, numbers: &[u16]) -> Result<Step, AllocError> {
         names.push(NameId(*number))?;
     }
     Ok(Step::Print(names))
-}
-
-#[test]
-fn a_print_shows_what_was_put_before(rt: HostRuntime) -> Result<(), Fail> {
-    let mut steps = Items::new(rt.alloc());
-    steps.push(Step::Put(NameId(0), 1))?;
-    steps.push(print(rt.alloc(), &[0, 1])?)?;
-    steps.push(Step::Put(NameId(1), 20))?;
-    steps.push(Step::Put(NameId(0), -3))?;
-    steps.push(print(rt.alloc(), &[1, 0])?)?;
-    let walked = walk(rt.alloc(), &Form { steps }, &Texts::new(rt.alloc()))?;
-
-    assert_eq!(rt; walked.outcome, Outcome::Done);
-    assert_eq!(rt; walked.lines.as_slice(), b"1 undefined\n20 -3\n".as_slice());
-    assert_eq!(rt; walked.heap.objects_of(1).len(), 0);
-    Ok(())
 }
 
 #[test]
