@@ -1,10 +1,18 @@
-// Whole runs over memory, one byte a call.
-use jo_program::{Status, run};
+// Whole runs over memory, one byte a call: each status and each line that says why an input is not
+// run, and that no call is made that is not needed.
 use jo_io::{MemorySink, MemorySource};
+use jo_program::{Status, run};
 use std::alloc::{AllocError, Global};
+use std::process::Abort;
 use std::sync::Wait;
 use std::test::Fail;
 use std::thread::Threads;
+
+const RUN: &[&str] = &["run"];
+
+const TURNS: &[&str] = &["run", "--turns", "0"];
+
+const CAPITAL: &[&str] = &["Run"];
 
 const SCRIPT: &[u8] = b"shared.x = 1; shared.y = 2; print(shared.x, shared.z);";
 
@@ -12,84 +20,133 @@ const OUTPUT: &[u8] = b"1| 1 undefined\n1= done\n#0.0 {\"x\": 1, \"y\": 2}\n";
 
 const USAGE: &[u8] = b"usage: jsobj run [--stats] [--turns T] | make N | run-made N\n";
 
-const UNEXPECTED: &[u8] = b"refused 3 Unexpected at 11\n";
-
 const SIZE: &[u8] = b"refused: input over 1048576 bytes\n";
 
-// The status of a run, and what was written. The source and the sink fail at the calls with these numbers.
-fn tried<R: Threads + Wait + Sync>(
-    rt: &R,
-    alloc: Global,
-    words: &[&str],
-    input: &[u8],
-    failing_reads: &[u64],
-    failing_writes: &[u64],
-) -> Result<(Status, Vec<u8>), AllocError> {
-    let mut given = Vec::new(alloc);
-    for word in words {
-        given.push(word.to_string(alloc)?)?;
-    }
-    let mut source = MemorySource::new(input.to_vec(alloc)?, 1, failing_reads.to_vec(alloc)?);
-    let mut sink = MemorySink::new(Vec::new(alloc), 1, failing_writes.to_vec(alloc)?);
-    let status = run(rt, alloc, &given, &mut source, &mut sink);
-    Ok((status, sink.bytes().to_vec(alloc)?))
+const DEEP: &[u8] = b"(((((((((((((((((((((((((((((((((((((((((((((((((((((((((((((((((";
+
+const SEPARATORS: &[u8] = b"%%\n%%\n%%\n%%\n%%\n%%\n%%\n%%\n";
+
+// What is run, the numbers of the read and the write that fail, and what comes of it. Without a
+// number it is the first call that is not needed.
+#[derive(Clone, Copy)]
+struct Row<'a> {
+    words: &'a [&'a str],
+    input: &'a [u8],
+    read: Option<usize>,
+    write: Option<usize>,
+    status: Status,
+    text: &'a [u8],
 }
 
-#[test]
-fn each_status_comes_with_its_text(rt: HostRuntime) -> Result<(), Fail> {
-    let none: &[u64] = &[];
-    let cases: [(&[&str], &[u8], &[u64], &[u64], Status, &[u8]); 9] = [
-        (&["run"], SCRIPT, none, none, Status::Done, OUTPUT),
-        (&["run"], SCRIPT, none, &[3], Status::WriteFault, b"1|"),
-        (&["run"], SCRIPT, none, &[1], Status::WriteFault, b""),
-        (&["run"], SCRIPT, &[2], none, Status::ReadFault, b""),
-        (
-            &["run", "--turns", "0"],
-            SCRIPT,
-            &[1],
-            none,
-            Status::Usage,
-            USAGE,
-        ),
-        (&[], SCRIPT, none, none, Status::Usage, USAGE),
-        (&["Run"], SCRIPT, &[1], &[4], Status::WriteFault, b"usa"),
-        (
-            &["run"],
-            b"shared.x = ",
-            none,
-            none,
-            Status::Refused,
-            UNEXPECTED,
-        ),
-        (
-            &["run"],
-            b"let a = {};",
-            none,
-            &[9],
-            Status::WriteFault,
-            b"refused ",
-        ),
-    ];
-    for (words, input, reads, writes, status, written) in cases {
-        let (found, text) = tried(&rt, rt.alloc(), words, input, reads, writes)?;
-        assert_eq!(rt; found, status);
-        assert_eq!(rt; text.as_slice(), written);
+// A run of an input in which nothing fails.
+fn fine<'a>(input: &'a [u8], status: Status, text: &'a [u8]) -> Row<'a> {
+    Row {
+        words: RUN,
+        input,
+        read: None,
+        write: None,
+        status,
+        text,
     }
+}
+
+fn refused<'a>(input: &'a [u8], line: &'a [u8]) -> Row<'a> {
+    fine(input, Status::Refused, line)
+}
+
+fn check<R: Abort + Threads + Wait + Sync>(
+    rt: &R,
+    alloc: Global,
+    row: Row<'_>,
+) -> Result<(), AllocError> {
+    let mut words = Vec::new(alloc);
+    for word in row.words {
+        words.push(word.to_string(alloc)?)?;
+    }
+    let read = row.read.unwrap_or(row.input.len().saturating_add(2));
+    let write = row.write.unwrap_or(row.text.len().saturating_add(1));
+    let mut source = MemorySource::new(row.input.to_vec(alloc)?, 1, vec![in alloc; read as u64]?);
+    let mut sink = MemorySink::new(Vec::new(alloc), 1, vec![in alloc; write as u64]?);
+    assert_eq!(rt; run(rt, alloc, &words, &mut source, &mut sink), row.status);
+    assert_eq!(rt; sink.bytes(), row.text);
     Ok(())
 }
 
+// One text more than the table of texts has room for.
+fn too_many_texts(alloc: Global) -> Result<Vec<u8>, AllocError> {
+    let mut script = Vec::new(alloc);
+    for number in 0..65_536 {
+        let line = format!(in alloc; "\"t{number}\";\n")?;
+        script.extend_from_slice(line.as_bytes())?;
+    }
+    Ok(script)
+}
+
 #[test]
-fn an_input_over_the_limit_is_too_large(rt: HostRuntime) -> Result<(), Fail> {
-    let blanks = " ".repeat(rt.alloc(), 1_048_577)?;
-    let (status, text) = tried(
-        &rt,
-        rt.alloc(),
-        &["run"],
-        blanks.as_str().as_bytes(),
-        &[],
-        &[],
-    )?;
-    assert_eq!(rt; status, Status::TooLarge);
-    assert_eq!(rt; text.as_slice(), SIZE);
+fn each_answer_comes_with_its_text(rt: HostRuntime) -> Result<(), Fail> {
+    let alloc = rt.alloc();
+    let texts = too_many_texts(alloc)?;
+    let blanks = " ".repeat(alloc, 1_048_577)?;
+    let rows = [
+        fine(SCRIPT, Status::Done, OUTPUT),
+        refused(b"shared.a = \xff", b"refused 1 NotUtf8 at 11\n"),
+        refused(b"shared.x = 1.5;", b"refused 2 BadToken at 11\n"),
+        refused(b"print(1;", b"refused 3 Unexpected at 7\n"),
+        refused(b"print(total);", b"refused 4 Undeclared at 6\n"),
+        refused(b"let a = 1; let a = 2;", b"refused 5 Twice at 15\n"),
+        refused(SEPARATORS, b"refused 6 TooManyScripts at 21\n"),
+        refused(DEEP, b"refused 7 NestedTooDeep at 64\n"),
+        refused(
+            b"shared.x = 9007199254740992;",
+            b"refused 8 NumberTooLarge at 11\n",
+        ),
+        refused(&texts, b"refused 9 TooManyTexts at 644240\n"),
+        refused(b"// nothing", b"refused 10 NoScript at 0\n"),
+        refused(b"let a = 1;", b"refused 11 NotBuilt at 0\n"),
+        Row {
+            read: Some(1_048_578),
+            ..fine(blanks.as_bytes(), Status::TooLarge, SIZE)
+        },
+        Row {
+            words: &[],
+            read: Some(1),
+            ..fine(SCRIPT, Status::Usage, USAGE)
+        },
+        Row {
+            words: TURNS,
+            read: Some(1),
+            ..fine(SCRIPT, Status::Usage, USAGE)
+        },
+        Row {
+            words: CAPITAL,
+            read: Some(1),
+            write: Some(4),
+            ..fine(SCRIPT, Status::WriteFault, b"usa")
+        },
+        Row {
+            read: Some(2),
+            write: Some(1),
+            ..fine(SCRIPT, Status::ReadFault, b"")
+        },
+        Row {
+            read: Some(55),
+            ..fine(SCRIPT, Status::ReadFault, b"")
+        },
+        Row {
+            write: Some(1),
+            ..fine(SCRIPT, Status::WriteFault, b"")
+        },
+        Row {
+            write: Some(3),
+            ..fine(SCRIPT, Status::WriteFault, b"1|")
+        },
+        Row {
+            write: Some(9),
+            ..fine(b"let a = {};", Status::WriteFault, b"refused ")
+        },
+    ];
+    for row in rows {
+        check(&rt, alloc, row)?;
+    }
     Ok(())
 }

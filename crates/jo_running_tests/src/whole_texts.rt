@@ -1,8 +1,9 @@
 // Each public call once, and what no clause says: that a call ends well where there is memory.
-use jo_text::{ReadError, add_heap, add_line, add_run, add_value, read_all, write_all};
-use jo_io::{Failed, MemorySink, MemorySource};
+use jo_io::{Failed, MemorySink, MemorySource, Sink, Source};
 use jo_model::{Call, Outcome, PlainHeap};
+use jo_text::{ReadError, add_heap, add_line, add_run, add_value, read_all, write_all};
 use jo_value::{Key, NameId, ObjId, TextId, Texts, Value};
+use std::alloc::AllocError;
 use std::process::Abort;
 use std::test::Fail;
 
@@ -15,26 +16,22 @@ fn values_of_all_kinds_stand_in_a_line(rt: HostRuntime) -> Result<(), Fail> {
         pass: 3,
         number: 4_095,
     };
-    let table = [
-        (Value::Undefined, "undefined"),
-        (Value::Null, "null"),
-        (Value::Bool(true), "true"),
-        (Value::Bool(false), "false"),
-        (Value::Int(0), "0"),
-        (Value::Int(-9_007_199_254_740_991), "-9007199254740991"),
-        (Value::Text(word), "a \"word\""),
-        (Value::Text(TextId(7)), ""),
-        (Value::Object(far), "#3.4095"),
+    let values = [
+        Value::Undefined,
+        Value::Null,
+        Value::Bool(true),
+        Value::Bool(false),
+        Value::Int(0),
+        Value::Int(-9_007_199_254_740_991),
+        Value::Text(word),
+        Value::Text(TextId(7)),
+        Value::Object(far),
     ];
-    for (value, expected) in table {
-        let mut text = Vec::from_slice(alloc, b"1| ")?;
-        add_value(alloc, &mut text, &texts, value)?;
-        assert_eq!(rt; &text[3..], expected.as_bytes());
-    }
     let mut line = Vec::new(alloc);
-    let values = [Value::Int(1), Value::Text(TextId(7)), Value::Null];
     add_line(alloc, &mut line, &texts, &values)?;
-    assert_eq!(rt; line.as_slice(), b"1  null".as_slice());
+    add_value(alloc, &mut line, &texts, Value::Bool(true))?;
+    let expected = "undefined null true false 0 -9007199254740991 a \"word\"  #3.4095true";
+    assert_eq!(rt; line.as_slice(), expected.as_bytes());
     Ok(())
 }
 
@@ -50,10 +47,15 @@ fn a_run_of_two_lines(rt: HostRuntime) -> Result<(), Fail> {
     Ok(())
 }
 
-// Sets a property of the shared object of a heap of two passes.
-fn put(rt: &impl Abort, heap: &mut PlainHeap, name: TextId, value: Value) -> Result<(), Fail> {
-    assert_eq!(rt; heap.passes(), 2);
-    assert_eq!(rt; heap.objects(0), 1);
+// Sets a property of the shared object.
+fn put(
+    rt: &impl Abort,
+    heap: &mut PlainHeap,
+    name: TextId,
+    value: Value,
+) -> Result<(), AllocError> {
+    assert!(rt; 1 < heap.passes());
+    assert!(rt; heap.objects(0) > 0);
     let call = Call::Put {
         object: ObjId::SHARED,
         key: Key::Name(NameId(name.0)),
@@ -105,5 +107,36 @@ fn a_failed_write_leaves_a_prefix(rt: HostRuntime) -> Result<(), Fail> {
     assert_eq!(rt; sink.bytes(), b">xy".as_slice());
     write_all(&mut sink, b"z")?;
     assert_eq!(rt; sink.bytes(), b">xyz".as_slice());
+    Ok(())
+}
+
+#[test]
+fn no_read_comes_after_the_end_or_the_limit(rt: HostRuntime) -> Result<(), Fail> {
+    let alloc = rt.alloc();
+    // An input, a limit, the number of the first call that is not needed, and what is read.
+    let rows: [(&[u8], usize, u64, &[u8]); 4] = [
+        (b"abc", 9, 5, b"abc"),
+        (b"abc", 2, 3, b"ab"),
+        (b"abc", 0, 1, b""),
+        (b"", 9, 2, b""),
+    ];
+    for (input, limit, not_needed, expected) in rows {
+        let mut source = MemorySource::new(input.to_vec(alloc)?, 1, vec![in alloc; not_needed]?);
+        let bytes = read_all(alloc, limit, &mut source)?;
+        assert_eq!(rt; bytes.as_slice(), expected);
+        assert_eq!(rt; source.read(&mut [0]), Err(Failed));
+    }
+    Ok(())
+}
+
+#[test]
+fn no_empty_piece_is_written(rt: HostRuntime) -> Result<(), Fail> {
+    let alloc = rt.alloc();
+    for (text, not_needed) in [(b"xyz".as_slice(), 4), (b"".as_slice(), 1)] {
+        let mut sink = MemorySink::new(Vec::new(alloc), 1, vec![in alloc; not_needed]?);
+        write_all(&mut sink, text)?;
+        assert_eq!(rt; sink.bytes(), text);
+        assert_eq!(rt; sink.write(b"z"), Err(Failed));
+    }
     Ok(())
 }
