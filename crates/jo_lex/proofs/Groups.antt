@@ -1,9 +1,10 @@
 -- The punctuators that begin alike: the longest of all is the longest of those that a script may begin with.
-use Rattle.std.proofs.Common.{◌≡◌, ◌<◌, ◌≤◌, ℕ, Bool, true, false, cond, nat_lt, ◌==◌, ◌⊎◌, inl, inr, List, [], ◌∷◌, length, take, filter, Option, Some, None, refl, sym, ap, ◌∙◌, arith}
-use Rattle.std.proofs.lemmas.Bool.{and_parts, eqb-true, false_from_ne_true, ltb-true, lt-ltb, le-ltb, cases_lt, cond_both}
+use Rattle.std.proofs.Common.{◌≡◌, ◌<◌, ◌≤◌, ℕ, Bool, true, false, cond, ◌&&◌, nat_lt, nat_le, ◌==◌, ◌⊎◌, inl, inr, List, [], ◌∷◌, length, take, filter, Option, Some, None, refl, sym, ap, ◌∙◌, arith}
+use Rattle.std.proofs.lemmas.Bool.{and_from, and_parts, eqb-true, false_from_ne_true, leb-true, ltb-true, ltb-false, le-leb, lt-ltb, le-ltb, cases_lt, cond_both}
 use Rattle.std.specs.List.{list_any, list_all}
 use Rattle.jo_lex.specs.Punctuators.{Entry, table, fits, longer, longest, punctuator_of}
-use Rattle.jo_lex.specs.Views.{may_begin, put, longer_first, entries_for}
+use Rattle.jo_lex.specs.Views.{is_ascii, is_falling, may_begin, put, longer_first, entries_for}
+use Rattle.jo_lex.proofs.Punctuation.{falling_parts}
 
 -- ---- what the punctuators begin with
 
@@ -36,6 +37,48 @@ filter-other c (p ∷ ps) e b =
 pub entries_for-other : (c : ℕ) → list_any (λ d. c == d) firsts ≡ false → [] ≡ entries_for c
 unfolding entries_for is_among
 entries_for-other c e = ap longer_first (sym (filter-other c table e table-begins))
+
+-- ---- the longer ones stand first
+
+abbrev is_row : ℕ → List ℕ → Bool
+is_row n p = is_ascii p && nat_lt 0 (length p) && nat_le (length p) n
+
+table-rows : list_all (λ p. is_row 4 p.0) table ≡ true
+unfolding table
+table-rows = refl
+
+falling-cons : (n : ℕ) (p : Entry) (ps : List Entry) → is_ascii p.0 ≡ true → 0 < length p.0 → length p.0 ≤ n → is_falling (length p.0) ps ≡ true → is_falling n (p ∷ ps) ≡ true
+falling-cons n p ps a l le f = rw (a, lt-ltb 0 (length p.0) l, le-leb (length p.0) n le, f) refl
+
+falling-put : (n : ℕ) (p : Entry) (ps : List Entry) → is_ascii p.0 ≡ true → 0 < length p.0 → length p.0 ≤ n → is_falling n ps ≡ true → is_falling n (put p ps) ≡ true
+falling-put n p [] a l le f = falling-cons n p [] a l le refl
+falling-put n p (q ∷ qs) a l le f = let parts = falling_parts n q qs f in step (nat_lt (length p.0) (length q.0)) refl parts (λ shorter. falling-put (length q.0) p qs a l shorter parts.3)
+  where
+    step : (b : Bool) → nat_lt (length p.0) (length q.0) ≡ b → (is_ascii q.0 ≡ true) × (0 < length q.0) × (length q.0 ≤ n) × (is_falling (length q.0) qs ≡ true)
+        → (length p.0 ≤ length q.0 → is_falling (length q.0) (put p qs) ≡ true) → is_falling n (put p (q ∷ qs)) ≡ true
+    step true e parts ih = let lt = ltb-true (length p.0) (length q.0) e in rw e (falling-cons n q (put p qs) parts.0 parts.1 parts.2 (ih (omega arith)))
+    step false e parts ih = rw e (falling-cons n p (q ∷ qs) a l le (falling-cons (length p.0) q qs parts.0 parts.1 (ltb-false (length p.0) (length q.0) e) parts.3))
+
+falling-longer_first : (n : ℕ) (ps : List Entry) → list_all (λ p. is_row n p.0) ps ≡ true → is_falling n (longer_first ps) ≡ true
+falling-longer_first n [] e = refl
+falling-longer_first n (p ∷ ps) e =
+    let parts = and_parts (is_row n p.0) (list_all (λ q. is_row n q.0) ps) e in
+    let row = and_parts (is_ascii p.0 && nat_lt 0 (length p.0)) (nat_le (length p.0) n) parts.0 in
+    let start = and_parts (is_ascii p.0) (nat_lt 0 (length p.0)) row.0 in
+    falling-put n p (longer_first ps) start.0 (ltb-true 0 (length p.0) start.1) (leb-true (length p.0) n row.1) (falling-longer_first n ps parts.1)
+
+filter-rows : (n c : ℕ) (ps : List Entry) → list_all (λ p. is_row n p.0) ps ≡ true → list_all (λ p. is_row n p.0) (filter (λ p. may_begin c p.0) ps) ≡ true
+filter-rows n c [] e = refl
+filter-rows n c (p ∷ ps) e =
+    let parts = and_parts (is_row n p.0) (list_all (λ q. is_row n q.0) ps) e in
+    cond_both (may_begin c p.0) (p ∷ filter (λ q. may_begin c q.0) ps) (filter (λ q. may_begin c q.0) ps) (λ rows. list_all (λ q. is_row n q.0) rows ≡ true)
+    (λ _. and_from (is_row n p.0) (list_all (λ q. is_row n q.0) (filter (λ q. may_begin c q.0) ps)) parts.0 (filter-rows n c ps parts.1))
+    (λ _. filter-rows n c ps parts.1)
+
+-- none is longer than the one before it, and the first has at most four characters
+pub entries_for-falling : (c : ℕ) → is_falling 4 (entries_for c) ≡ true
+unfolding entries_for
+entries_for-falling c = falling-longer_first 4 (filter (λ p. may_begin c p.0) table) (filter-rows 4 c table table-rows)
 
 -- ---- the longest, of those that begin alike
 

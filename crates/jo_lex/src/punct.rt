@@ -1,6 +1,6 @@
 // The punctuators.
-ghost use Rattle.std.specs.Prelude.{◌≡◌, true};
-ghost use Rattle.jo_lex.specs.Views.{entries_of, entries_for, is_falling};
+ghost use Rattle.std.specs.Prelude.{◌≡◌};
+ghost use Rattle.jo_lex.specs.Views.{entries_of, entries_for};
 
 /// A punctuator that is accepted.
 #[derive(Clone, Copy, PartialEq, Eq)]
@@ -117,8 +117,7 @@ const QUESTIONS: [Row; 4] = [
 
 /// The punctuators that begin with the character, the longer ones first.
 pub(crate) fn beginning_with(first: char) -> &'static [Row]
-    ensures rows { entries_of result.now ≡ entries_for first }
-    ensures falling { is_falling 4 (entries_of result.now) ≡ true }
+    ensures { entries_of result.now ≡ entries_for first }
 {
     match first {
         '{' => &[("{", Some(Punct::OpenBrace))],
