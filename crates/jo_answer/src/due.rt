@@ -31,7 +31,7 @@ pub enum Verdict {
 }
 
 /// What is said of an input, and the text that is due for it.
-#[derive(Debug, Drop)]
+#[derive(Drop)]
 pub struct Answer {
     pub verdict: Verdict,
     pub text: Vec<u8>,
