@@ -1,5 +1,6 @@
 // Sets of scripts, with ample memory: cut, read into tokens, spelled and judged, each at its place.
 ghost use Rattle.std.specs.Prelude.{◌≤◌, length};
+ghost use Rattle.jo_value.specs.declared.limits.TheConstants.{MOST_INPUT};
 
 use jo_parse::{ParseFault, Refusal, RefusalKind, parse_set};
 use std::alloc::{AllocError, Global};
@@ -30,7 +31,7 @@ enum Outcome {
 const ACCEPTED: Outcome = Outcome::Accepted(1);
 
 fn answer(alloc: Global, bytes: &[u8]) -> Outcome
-    requires { length bytes.now ≤ 1048576 }
+    requires { length bytes.now ≤ MOST_INPUT }
 {
     match parse_set(alloc, bytes) {
         Ok(set) => Outcome::Accepted(set.len()),
