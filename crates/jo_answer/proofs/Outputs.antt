@@ -12,7 +12,7 @@ use Rattle.jo_meaning.specs.Runs.{Ended}
 use Rattle.jo_meaning.specs.Histories.{IsHistoryOf, run_in, played_alone}
 use Rattle.jo_meaning.specs.Output.{stand_text}
 use Rattle.jo_walk.specs.Alone.{IsRunAlone}
-use Rattle.jo_answer.specs.declared.due.TheConstants.{DEFAULT_TURNS}
+use Rattle.jo_value.specs.declared.limits.TheConstants.{DEFAULT_TURNS}
 use Rattle.jo_answer.specs.Answers.{IsOutputOf}
 
 -- where the one script of a history stands

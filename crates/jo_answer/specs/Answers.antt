@@ -1,6 +1,6 @@
 -- What is due for an input.
 use Rattle.std.specs.Prelude.{◌≡◌, ◌⊎◌, ℕ, ◌≤◌, ◌<◌, List, [], ◌∷◌, length, Some}
-use Rattle.jo_value.specs.declared.limits.TheConstants.{MOST_INPUT}
+use Rattle.jo_value.specs.declared.limits.TheConstants.{DEFAULT_TURNS, MOST_INPUT}
 use Rattle.jo_value.specs.Texts.{Table}
 use Rattle.jo_lex.specs.declared.refusal.Refusal.{Refusal}
 use Rattle.jo_tree.specs.Trees.{Items}
@@ -12,7 +12,6 @@ use Rattle.jo_form.specs.declared.form.Step.{Step}
 use Rattle.jo_form.specs.declared.form.TheConstants.{MOST_FORM_BYTES}
 use Rattle.jo_form.specs.Forms.{form_of}
 use Rattle.jo_set.specs.Sets.{IsAcceptedSet, IsRefusal}
-use Rattle.jo_answer.specs.declared.due.TheConstants.{DEFAULT_TURNS}
 use Rattle.jo_answer.specs.declared.due.Verdict.{Verdict}
 use Rattle.jo_answer.specs.declared.due.Verdict.TheVariants as verdict
 use Rattle.jo_answer.specs.Lines.{refusal_line, not_built_line, size_line}

@@ -16,9 +16,6 @@ use jo_value::{MOST_INPUT, Texts};
 use jo_walk::walk;
 use std::alloc::{AllocError, Global};
 
-/// The loop turns that each script has where nothing else is said.
-pub const DEFAULT_TURNS: u32 = 1_000_000;
-
 /// What is said of an input.
 #[derive(Clone, Copy, Debug, PartialEq, Eq)]
 pub enum Verdict {

@@ -4,4 +4,4 @@
 mod due;
 mod lines;
 
-pub use due::{Answer, DEFAULT_TURNS, Verdict, answer_to};
+pub use due::{Answer, Verdict, answer_to};

@@ -1,4 +1,4 @@
-use Rattle.jo_answer.specs.declared.due.TheConstants.{DEFAULT_TURNS}
+use Rattle.jo_value.specs.declared.limits.TheConstants.{DEFAULT_TURNS}
 use Rattle.jo_answer.proofs.Outputs.{output_alone}
 use Rattle.jo_answer.proofs.due.output.Goals as goal
 
