@@ -69,8 +69,11 @@ IsUnlessFault due status.Memory = ⊤
 IsUnlessFault due result = result ≡ due
 
 -- What is answered to an input, faults and want of memory aside: it is run where it is a set that is built, refused
--- where it is refused or not built, and too large where it has too many bytes.
+-- where it is refused or not built, and too large where it has too many bytes. No other input is answered so.
 pub record IsJudged (result : Status) (bytes : List ℕ) : Type 0 where
   pub run : IsRunnable bytes → IsUnlessFault status.Done result
   pub refused : length bytes ≤ MOST_INPUT → IsRefusedInput bytes → IsUnlessFault status.Refused result
   pub large : MOST_INPUT < length bytes → IsUnlessFault status.TooLarge result
+  pub only_run : result ≡ status.Done → IsRunnable bytes
+  pub only_refused : result ≡ status.Refused → IsRefusedInput bytes
+  pub only_large : result ≡ status.TooLarge → MOST_INPUT < length bytes

@@ -1,15 +1,14 @@
 // The top call.
-ghost use Rattle.std.specs.Prelude.{◌≡◌, ◌≢◌, ◌⊎◌, ◌+◌, ◌<◌, true, false, length, IfSome};
+ghost use Rattle.std.specs.Prelude.{◌≡◌, ◌≢◌, ◌⊎◌, ◌+◌, true, false, IfSome, IfOk, IsErrOf};
 ghost use Rattle.std.specs.Io.KnownBytes.{Appends};
 ghost use Rattle.jo_value.specs.declared.limits.TheConstants.{MOST_INPUT};
 ghost use Rattle.jo_io.specs.Causes.{Counts};
 ghost use Rattle.jo_text.specs.Bytes.{ConsumesAtMost, AppendsPart};
 ghost use Rattle.jo_answer.specs.declared.due.Verdict.TheVariants as verdict;
-ghost use Rattle.jo_answer.specs.Answers.{IsRefusedInput};
 ghost use Rattle.jo_program.specs.Run.{is_run, status_of, IsAnswer, IsJudged, IsDueText, IsUsage, Writes, WritesPart};
 
 use crate::Status;
-use jo_answer::{Verdict, answer_to};
+use jo_answer::{Answer, Verdict, answer_to};
 use jo_io::{Failed, Sink, Source};
 use jo_text::{ReadError, read_all, write_all};
 use jo_value::MOST_INPUT;
@@ -44,11 +43,8 @@ pub fn run<R: Threads + Wait + Sync, S: Source, K: Sink>(
     ensures usage { result ≡ Status.Usage
         → Writes (IsUsage words.now) (K.held sink.old) (K.held sink.new) }
 
-    // The input alone decides which of them it is.
+    // The words and the whole input decide which of them it is.
     ensures judged { is_run words.now ≡ true → IfSome (S.left source.old) (IsJudged result) }
-    ensures refused_input { result ≡ Status.Refused → IfSome (S.left source.old) IsRefusedInput }
-    ensures large_input { result ≡ Status.TooLarge
-        → IfSome (S.left source.old) (λ bytes. MOST_INPUT < length bytes) }
     ensures other_words { is_run words.now ≡ false
         → (result ≡ Status.Usage) ⊎ (result ≡ Status.WriteFault) }
 
@@ -71,14 +67,10 @@ pub fn run<R: Threads + Wait + Sync, S: Source, K: Sink>(
     if !is_run(words) {
         return finish(sink, USAGE_LINE, Status::Usage);
     }
-    let bytes = match read_all(alloc, MOST_INPUT + 1, source) {
-        Ok(bytes) => bytes,
-        Err(ReadError::Failed) => return Status::ReadFault,
-        Err(ReadError::Memory) => return Status::Memory,
-    };
-    match answer_to(alloc, &bytes) {
+    match answer_of(alloc, source) {
         Ok(answer) => finish(sink, &answer.text, status_of(answer.verdict)),
-        Err(_) => Status::Memory,
+        Err(ReadError::Failed) => Status::ReadFault,
+        Err(ReadError::Memory) => Status::Memory,
     }
 }
 
@@ -89,6 +81,23 @@ fn is_run(words: &[String]) -> bool
         [word] => word.as_str() == "run",
         _ => false,
     }
+}
+
+// Reads the input: what is said of it, and the text that is due for it.
+fn answer_of<S: Source>(alloc: Global, source: &mut S) -> Result<Answer, ReadError>
+    ensures due { IfOk result (λ answer. IsAnswer answer.verdict
+        (S.left source.old) (S.left source.new) answer.text.items) }
+    ensures judged { IfOk result (λ answer.
+        IfSome (S.left source.old) (IsJudged (status_of answer.verdict))) }
+    ensures bound { ConsumesAtMost (S.left source.old) (S.left source.new) (MOST_INPUT + 1) }
+    ensures failed { IsErrOf result ReadError.Failed
+        → ConsumesAtMost (S.left source.old) (S.left source.new) MOST_INPUT }
+    ensures cause { Counts (IsErrOf result ReadError.Failed)
+        (S.faults source.old) (S.faults source.new) }
+{
+    let bytes = read_all(alloc, MOST_INPUT + 1, source)?;
+    let answer = answer_to(alloc, &bytes)?;
+    Ok(answer)
 }
 
 fn status_of(verdict: Verdict) -> Status
