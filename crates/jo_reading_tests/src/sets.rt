@@ -47,122 +47,126 @@ fn check(rt: &impl Abort, alloc: Global, rows: &[(&str, Outcome)]) {
     }
 }
 
+const CUTS: [(&str, Outcome); 15] = [
+    ("let a = 1;\n%%\nprint(2);", Outcome::Accepted(2)),
+    ("%%", Outcome::Accepted(2)),
+    (";\n%%\r\n;", Outcome::Accepted(2)),
+    (";\n%%\r", Outcome::Accepted(2)),
+    (";\n%%\n\n%%", Outcome::Accepted(3)),
+    ("", Outcome::Refused(RefusalKind::NoScript, 0)),
+    ("%% ", Outcome::Refused(UNEXPECTED, 0)),
+    (" %%\n;", Outcome::Refused(UNEXPECTED, 1)),
+    ("%%%\n%", Outcome::Refused(UNEXPECTED, 0)),
+    (";\r%%\r\r;", Outcome::Refused(UNEXPECTED, 2)),
+    ("/*\n%%\n*/", Outcome::Refused(BAD, 0)),
+    ("let é;\n%%\nlet é; b;", Outcome::Refused(UNDECLARED, 19)),
+    // The stages come one after another, each over all scripts.
+    ("print(b);\n%%\n1.5;", Outcome::Refused(BAD, 13)),
+    (
+        "let = 1;\n%%\n9007199254740992;",
+        Outcome::Refused(LARGE, 12),
+    ),
+    ("print(b);\n%%\nlet = 1;", Outcome::Refused(UNEXPECTED, 17)),
+];
+
 #[test]
 fn separators_cut_a_set_into_scripts(rt: HostRuntime) {
-    let rows = [
-        ("let a = 1;\n%%\nprint(2);", Outcome::Accepted(2)),
-        ("%%", Outcome::Accepted(2)),
-        (";\n%%\r\n;", Outcome::Accepted(2)),
-        (";\n%%\r", Outcome::Accepted(2)),
-        (";\n%%\n\n%%", Outcome::Accepted(3)),
-        ("", Outcome::Refused(RefusalKind::NoScript, 0)),
-        ("%% ", Outcome::Refused(UNEXPECTED, 0)),
-        (" %%\n;", Outcome::Refused(UNEXPECTED, 1)),
-        ("%%%\n%", Outcome::Refused(UNEXPECTED, 0)),
-        (";\r%%\r\r;", Outcome::Refused(UNEXPECTED, 2)),
-        ("/*\n%%\n*/", Outcome::Refused(BAD, 0)),
-        ("let é;\n%%\nlet é; b;", Outcome::Refused(UNDECLARED, 19)),
-        // The stages come one after another, each over all scripts.
-        ("print(b);\n%%\n1.5;", Outcome::Refused(BAD, 13)),
-        (
-            "let = 1;\n%%\n9007199254740992;",
-            Outcome::Refused(LARGE, 12),
-        ),
-        ("print(b);\n%%\nlet = 1;", Outcome::Refused(UNEXPECTED, 17)),
-    ];
-    check(&rt, rt.alloc(), &rows);
+    check(&rt, rt.alloc(), &CUTS);
 }
+
+const NAMES: [(&str, Outcome); 7] = [
+    ("let a; let b = a; { b; }", ACCEPTED),
+    ("let a = 1; let a = 2;", Outcome::Refused(TWICE, 15)),
+    ("let a; print(a); let a;", Outcome::Refused(TWICE, 21)),
+    ("let a; b; let a;", Outcome::Refused(UNDECLARED, 7)),
+    ("let a = a;", Outcome::Refused(UNDECLARED, 8)),
+    (
+        "let a = 1; { print(a); let a = 2; }",
+        Outcome::Refused(UNDECLARED, 19),
+    ),
+    ("let a;\n%%\nprint(a);", Outcome::Refused(UNDECLARED, 16)),
+];
 
 #[test]
 fn names_are_declared_before_they_are_used(rt: HostRuntime) {
-    let rows = [
-        ("let a; let b = a; { b; }", ACCEPTED),
-        ("let a = 1; let a = 2;", Outcome::Refused(TWICE, 15)),
-        ("let a; print(a); let a;", Outcome::Refused(TWICE, 21)),
-        ("let a; b; let a;", Outcome::Refused(UNDECLARED, 7)),
-        ("let a = a;", Outcome::Refused(UNDECLARED, 8)),
-        (
-            "let a = 1; { print(a); let a = 2; }",
-            Outcome::Refused(UNDECLARED, 19),
-        ),
-        ("let a;\n%%\nprint(a);", Outcome::Refused(UNDECLARED, 16)),
-    ];
-    check(&rt, rt.alloc(), &rows);
+    check(&rt, rt.alloc(), &NAMES);
 }
 
 // A script that is refused for its names is one by the grammar.
+const SCRIPTS: [(&str, Outcome); 27] = [
+    (";", ACCEPTED),
+    ("let x = 1, y; ; x = y;", ACCEPTED),
+    ("let __proto__ = {a: 1,};", ACCEPTED),
+    ("if (1) if (2) ; else ; else ;", ACCEPTED),
+    ("if (1) ; else ; else ;", Outcome::Refused(UNEXPECTED, 16)),
+    ("else ;", Outcome::Refused(UNEXPECTED, 0)),
+    (
+        "while (1) { if (x) break; continue; }",
+        Outcome::Refused(UNDECLARED, 16),
+    ),
+    ("break;", Outcome::Refused(UNEXPECTED, 0)),
+    (
+        "while (1) ; { continue; }",
+        Outcome::Refused(UNEXPECTED, 14),
+    ),
+    ("for (;;) { break }", Outcome::Refused(UNEXPECTED, 17)),
+    (
+        "for (let i = (a in b); a in b;) ;",
+        Outcome::Refused(UNDECLARED, 14),
+    ),
+    ("for (x in y;;) ;", Outcome::Refused(UNEXPECTED, 7)),
+    ("for (let i = a in b;;) ;", Outcome::Refused(UNEXPECTED, 15)),
+    ("({ a: 1 });", ACCEPTED),
+    ("{ a: 1 };", Outcome::Refused(UNEXPECTED, 3)),
+    ("if (1) { let x; }", ACCEPTED),
+    ("if (1) let x;", Outcome::Refused(UNEXPECTED, 7)),
+    (
+        "print(); print(1, x); printNames(x);",
+        Outcome::Refused(UNDECLARED, 18),
+    ),
+    ("print(1,);", Outcome::Refused(UNEXPECTED, 8)),
+    ("printNames();", Outcome::Refused(UNEXPECTED, 11)),
+    ("let x = 1, ;", Outcome::Refused(UNEXPECTED, 11)),
+    ("let if;", Outcome::Refused(UNEXPECTED, 4)),
+    ("let x", Outcome::Refused(UNEXPECTED, 5)),
+    ("while (1) ", Outcome::Refused(UNEXPECTED, 10)),
+    ("; }", Outcome::Refused(UNEXPECTED, 2)),
+    ("; {", Outcome::Refused(UNEXPECTED, 3)),
+    ("1 2 #", Outcome::Refused(BAD, 4)),
+];
+
 #[test]
 fn scripts_are_read_by_the_grammar(rt: HostRuntime) {
-    let rows = [
-        (";", ACCEPTED),
-        ("let x = 1, y; ; x = y;", ACCEPTED),
-        ("let __proto__ = {a: 1,};", ACCEPTED),
-        ("if (1) if (2) ; else ; else ;", ACCEPTED),
-        ("if (1) ; else ; else ;", Outcome::Refused(UNEXPECTED, 16)),
-        ("else ;", Outcome::Refused(UNEXPECTED, 0)),
-        (
-            "while (1) { if (x) break; continue; }",
-            Outcome::Refused(UNDECLARED, 16),
-        ),
-        ("break;", Outcome::Refused(UNEXPECTED, 0)),
-        (
-            "while (1) ; { continue; }",
-            Outcome::Refused(UNEXPECTED, 14),
-        ),
-        ("for (;;) { break }", Outcome::Refused(UNEXPECTED, 17)),
-        (
-            "for (let i = (a in b); a in b;) ;",
-            Outcome::Refused(UNDECLARED, 14),
-        ),
-        ("for (x in y;;) ;", Outcome::Refused(UNEXPECTED, 7)),
-        ("for (let i = a in b;;) ;", Outcome::Refused(UNEXPECTED, 15)),
-        ("({ a: 1 });", ACCEPTED),
-        ("{ a: 1 };", Outcome::Refused(UNEXPECTED, 3)),
-        ("if (1) { let x; }", ACCEPTED),
-        ("if (1) let x;", Outcome::Refused(UNEXPECTED, 7)),
-        (
-            "print(); print(1, x); printNames(x);",
-            Outcome::Refused(UNDECLARED, 18),
-        ),
-        ("print(1,);", Outcome::Refused(UNEXPECTED, 8)),
-        ("printNames();", Outcome::Refused(UNEXPECTED, 11)),
-        ("let x = 1, ;", Outcome::Refused(UNEXPECTED, 11)),
-        ("let if;", Outcome::Refused(UNEXPECTED, 4)),
-        ("let x", Outcome::Refused(UNEXPECTED, 5)),
-        ("while (1) ", Outcome::Refused(UNEXPECTED, 10)),
-        ("; }", Outcome::Refused(UNEXPECTED, 2)),
-        ("; {", Outcome::Refused(UNEXPECTED, 3)),
-        ("1 2 #", Outcome::Refused(BAD, 4)),
-    ];
-    check(&rt, rt.alloc(), &rows);
+    check(&rt, rt.alloc(), &SCRIPTS);
 }
+
+const EXPRESSIONS: [(&str, Outcome); 15] = [
+    ("a.b[c] = x += -1;", Outcome::Refused(UNDECLARED, 0)),
+    (
+        "a || b && c === d < e + f * !g;",
+        Outcome::Refused(UNDECLARED, 0),
+    ),
+    (
+        "a - b - c ? {x: 1, 'y': 2, 3: z,} : cas(a, 'k', null, true);",
+        Outcome::Refused(UNDECLARED, 0),
+    ),
+    ("delete a.if, __proto__;", Outcome::Refused(UNEXPECTED, 11)),
+    ("__proto__.__proto__;", Outcome::Refused(UNDECLARED, 0)),
+    ("'x' in a;", Outcome::Refused(UNDECLARED, 7)),
+    ("for ('x' in a;;) ;", Outcome::Refused(UNEXPECTED, 9)),
+    ("for (('x' in a);;) ;", Outcome::Refused(UNDECLARED, 13)),
+    ("({__proto__: 1});", Outcome::Refused(UNEXPECTED, 2)),
+    ("({,});", Outcome::Refused(UNEXPECTED, 2)),
+    ("(a) = 1;", Outcome::Refused(UNEXPECTED, 4)),
+    ("delete (a.b);", Outcome::Refused(UNEXPECTED, 12)),
+    ("delete a;", Outcome::Refused(UNEXPECTED, 8)),
+    ("var;", Outcome::Refused(UNEXPECTED, 0)),
+    ("();", Outcome::Refused(UNEXPECTED, 1)),
+];
 
 #[test]
 fn expressions_are_read_by_the_grammar(rt: HostRuntime) {
-    let rows = [
-        ("a.b[c] = x += -1;", Outcome::Refused(UNDECLARED, 0)),
-        (
-            "a || b && c === d < e + f * !g;",
-            Outcome::Refused(UNDECLARED, 0),
-        ),
-        (
-            "a - b - c ? {x: 1, 'y': 2, 3: z,} : cas(a, 'k', null, true);",
-            Outcome::Refused(UNDECLARED, 0),
-        ),
-        ("delete a.if, __proto__;", Outcome::Refused(UNEXPECTED, 11)),
-        ("__proto__.__proto__;", Outcome::Refused(UNDECLARED, 0)),
-        ("'x' in a;", Outcome::Refused(UNDECLARED, 7)),
-        ("for ('x' in a;;) ;", Outcome::Refused(UNEXPECTED, 9)),
-        ("for (('x' in a);;) ;", Outcome::Refused(UNDECLARED, 13)),
-        ("({__proto__: 1});", Outcome::Refused(UNEXPECTED, 2)),
-        ("({,});", Outcome::Refused(UNEXPECTED, 2)),
-        ("(a) = 1;", Outcome::Refused(UNEXPECTED, 4)),
-        ("delete (a.b);", Outcome::Refused(UNEXPECTED, 12)),
-        ("delete a;", Outcome::Refused(UNEXPECTED, 8)),
-        ("var;", Outcome::Refused(UNEXPECTED, 0)),
-        ("();", Outcome::Refused(UNEXPECTED, 1)),
-    ];
-    check(&rt, rt.alloc(), &rows);
+    check(&rt, rt.alloc(), &EXPRESSIONS);
 }
 
 // The front so many times, the middle, and the back as often.
