@@ -4,8 +4,6 @@
 #[cfg(test)]
 mod ends;
 #[cfg(test)]
-mod heaps;
-#[cfg(test)]
 mod runs;
 #[cfg(test)]
 mod walking;

@@ -1,6 +1,7 @@
-// Steps that no script of the small form has so many of, with ample memory.
+// Steps that no script of the small form has, with ample memory.
 use jo_form::{Form, Step};
 use jo_model::Outcome;
+use jo_text::add_heap;
 use jo_value::{NameId, Texts};
 use jo_walk::walk;
 use sqlite_items::Items;
@@ -41,5 +42,22 @@ fn a_line_that_does_not_fit_ends_the_script(rt: HostRuntime) -> Result<(), Fail>
 
     assert_eq!(rt; walked.outcome, Outcome::OutputFull);
     assert_eq!(rt; walked.lines.len(), 262_000);
+    Ok(())
+}
+
+#[test]
+fn objects_have_a_line_each(rt: HostRuntime) -> Result<(), Fail> {
+    let mut texts = Texts::new(rt.alloc());
+    let marked = texts.intern("\\ and \"")?;
+    let plain = texts.intern("plain")?;
+    let mut steps = Items::new(rt.alloc());
+    steps.push(Step::Put(NameId(plain.0), 5))?;
+    steps.push(Step::Put(NameId(marked.0), -5))?;
+    let walked = walk(rt.alloc(), &Form { steps }, &texts)?;
+
+    let mut text = Vec::new(rt.alloc());
+    add_heap(rt.alloc(), &mut text, &texts, &walked.heap)?;
+    let expected = "#0.0 {\"plain\": 5, \"\\\\ and \\\"\": -5}\n";
+    assert_eq!(rt; text.as_slice(), expected.as_bytes());
     Ok(())
 }
