@@ -8,7 +8,7 @@ use Rattle.jo_form.specs.declared.form.TheConstants.{MOST_FORM_BYTES}
 use Rattle.jo_form.specs.declared.form.Form.{Form}
 use Rattle.jo_form.specs.Forms.{form_of}
 use Rattle.jo_form.specs.declared.form.Step.{Step}
-use Rattle.jo_set.specs.Sets.{IsAcceptedSet}
+use Rattle.jo_grammar.specs.Sets.{IsAcceptedSet}
 use Rattle.jo_walk.specs.Small.{AreSmall}
 use Rattle.jo_answer.specs.Answers.{IsForm, IsOutputOf, IsRun}
 use Rattle.jo_answer.proofs.SmallForms.{forms_are_small}

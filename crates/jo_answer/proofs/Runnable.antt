@@ -5,7 +5,7 @@ use Rattle.jo_value.specs.declared.limits.TheConstants.{MOST_INPUT}
 use Rattle.jo_value.specs.Texts.{Table}
 use Rattle.jo_tree.specs.Trees.{Items}
 use Rattle.jo_form.specs.declared.form.TheConstants.{MOST_FORM_BYTES}
-use Rattle.jo_set.proofs.OneAnswer.{one_set, set_or_refused}
+use Rattle.jo_grammar.proofs.OneAnswer.{one_set, set_or_refused}
 use Rattle.jo_answer.specs.declared.due.Verdict.{Verdict}
 use Rattle.jo_answer.specs.declared.due.Verdict.TheVariants as verdict
 use Rattle.jo_answer.specs.Answers.{IsBuilt, IsRun, IsDue, IsRunnable, IsRefusedInput}

@@ -12,16 +12,16 @@ use Rattle.jo_tree.specs.Trees.{Tree, number, assign, Statement, print, run, Ite
 use Rattle.jo_grammar.specs.Expressions.{Mark, mark}
 use Rattle.jo_grammar.specs.Statements.{arguments, statement, items, IsScript}
 use Rattle.jo_grammar.specs.Refusals.{terms, IsAccepted}
-use Rattle.jo_syntax.specs.Terminals.{terminals_of}
-use Rattle.jo_scope.specs.Sound.{IsInRange, Suits, SuitsStatement, SuitItems, IsSound}
-use Rattle.jo_pieces.specs.Cuts.{pieces_of}
-use Rattle.jo_set.specs.Sets.{AreScripts, IsAcceptedSet}
-use Rattle.jo_set.proofs.SpelledLengths.{arguments_few}
-use Rattle.jo_set.proofs.PiecesInText.{pieces-short}
-use Rattle.jo_set.proofs.TokensInTable.{IsGoodList}
-use Rattle.jo_set.proofs.ListsInTable.{AreGoodLists, lists-good}
-use Rattle.jo_set.proofs.TerminalsInTable.{terminals-few}
-use Rattle.jo_set.proofs.SetsAreSound.{sets_are_sound}
+use Rattle.jo_grammar.specs.Terminals.{terminals_of}
+use Rattle.jo_grammar.specs.Sound.{IsInRange, Suits, SuitsStatement, SuitItems, IsSound}
+use Rattle.jo_grammar.specs.Cuts.{pieces_of}
+use Rattle.jo_grammar.specs.Sets.{AreScripts, IsAcceptedSet}
+use Rattle.jo_grammar.proofs.SpelledLengths.{arguments_few}
+use Rattle.jo_grammar.proofs.PiecesInText.{pieces-short}
+use Rattle.jo_grammar.proofs.TokensInTable.{IsGoodList}
+use Rattle.jo_grammar.proofs.ListsInTable.{AreGoodLists, lists-good}
+use Rattle.jo_grammar.proofs.TerminalsInTable.{terminals-few}
+use Rattle.jo_grammar.proofs.SetsAreSound.{sets_are_sound}
 use Rattle.jo_form.specs.declared.form.TheConstants.{MOST_FORM_BYTES}
 use Rattle.jo_form.specs.declared.form.Step.{Step}
 use Rattle.jo_form.specs.declared.form.Step.TheVariants as step

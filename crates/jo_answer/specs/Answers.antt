@@ -11,7 +11,7 @@ use Rattle.jo_meaning.specs.Output.{output}
 use Rattle.jo_form.specs.declared.form.Step.{Step}
 use Rattle.jo_form.specs.declared.form.TheConstants.{MOST_FORM_BYTES}
 use Rattle.jo_form.specs.Forms.{form_of}
-use Rattle.jo_set.specs.Sets.{IsAcceptedSet, IsRefusal}
+use Rattle.jo_grammar.specs.Sets.{IsAcceptedSet, IsRefusal}
 use Rattle.jo_answer.specs.declared.due.Verdict.{Verdict}
 use Rattle.jo_answer.specs.declared.due.Verdict.TheVariants as verdict
 use Rattle.jo_answer.specs.Lines.{refusal_line, not_built_line, size_line}

@@ -4,14 +4,14 @@ ghost use Rattle.jo_value.specs.declared.limits.TheConstants.{MOST_INPUT};
 ghost use Rattle.jo_tree.specs.Trees.{Items};
 ghost use Rattle.jo_form.specs.Forms.{form_of};
 ghost use Rattle.jo_parse.specs.Parsed.{trees_of};
-ghost use Rattle.jo_set.specs.Sets.{IsAcceptedSet};
+ghost use Rattle.jo_grammar.specs.Sets.{IsAcceptedSet};
 ghost use Rattle.jo_walk.specs.Small.{AreSmall};
 ghost use Rattle.jo_answer.specs.Answers.{IsBuilt, IsDue, IsForm, IsOutputOf};
 
 use crate::lines::{NOT_BUILT_LINE, SIZE_LINE, refusal_line};
 use jo_form::{Form, MOST_FORM_BYTES, form_of};
 use jo_parse::{ParseFault, ScriptSet, parse_set};
-use jo_text::{add_heap, add_run};
+use jo_render::{add_heap, add_run};
 use jo_value::{MOST_INPUT, Texts};
 use jo_walk::walk;
 use std::alloc::{AllocError, Global};

@@ -4,3 +4,11 @@ pub mod Statements
 pub mod Refusals
 pub mod Read
 pub mod ReadStatements
+pub mod Terminals
+pub mod TokenRefusals
+pub mod Declarations
+pub mod NameRefusals
+pub mod Sound
+pub mod Cuts
+pub mod Sets
+pub mod Soundness

@@ -5,3 +5,4 @@ pub mod WorkedStatements
 pub mod WorkedRuns
 pub mod Alone
 pub mod Agree
+pub mod Agrees

@@ -10,12 +10,12 @@ use Rattle.jo_lex.specs.declared.refusal.ParseFault.{ParseFault}
 use Rattle.jo_lex.specs.declared.refusal.ParseFault.TheVariants.{Memory, Refused}
 use Rattle.jo_tree.specs.Trees.{Items}
 use Rattle.jo_grammar.specs.Refusals.{Fault, unexpected, too_deep}
-use Rattle.jo_syntax.specs.Parsed.{kind_of}
-use Rattle.jo_scope.specs.Declarations.{ScopeFault, undeclared, twice, Found, first_of_faults}
-use Rattle.jo_judge.specs.Judged as judged
-use Rattle.jo_judge.specs.Judged.{refusal_for}
-use Rattle.jo_pieces.specs.Cuts.{pieces_of}
-use Rattle.jo_set.specs.Sets.{IsFirstUnread, IsFirstMisspelled, IsCut, IsLexed, IsParsed, IsRefusalOf, faults_of_all}
+use Rattle.jo_grammar.specs.TokenRefusals.{kind_of}
+use Rattle.jo_grammar.specs.Declarations.{ScopeFault, undeclared, twice, Found, first_of_faults}
+use Rattle.jo_grammar.specs.NameRefusals as judged
+use Rattle.jo_grammar.specs.NameRefusals.{refusal_for}
+use Rattle.jo_grammar.specs.Cuts.{pieces_of}
+use Rattle.jo_grammar.specs.Sets.{IsFirstUnread, IsFirstMisspelled, IsCut, IsLexed, IsParsed, IsRefusalOf, faults_of_all}
 use Rattle.jo_parse.specs.Parsed.{IsFault}
 use Rattle.jo_parse.specs.Stages.{IsLexFault, IsTreeFault, IsFirstNameFault}
 use Rattle.jo_parse.proofs.LexFaults.{IsLexKind, is_lex_kind}

@@ -15,8 +15,8 @@ use Rattle.jo_lex.specs.Characters.{Characters, begins_with, is_spoiler, is_word
 use Rattle.jo_lex.specs.Punctuators.{Entry, punctuator_of}
 use Rattle.jo_lex.specs.Pieces.{Lexeme, word, number, text, Piece, gap, lexeme, fault, after_close, closed, comment, limited, word_piece, quoted, text_piece, judged, decimal, number_piece, accepted, punctuator_piece, token_piece, piece}
 use Rattle.jo_lex.specs.Tokens.{State, Next, ended, refused, onward, with_token, taken, next_of, last, kind_of}
-use Rattle.jo_pieces.specs.Cuts as cuts
-use Rattle.jo_set.specs.Sets.{begun, IsFirstUnread}
+use Rattle.jo_grammar.specs.Cuts as cuts
+use Rattle.jo_grammar.specs.Sets.{begun, IsFirstUnread}
 
 abbrev pub IsLexKind : RefusalKind → Type 0
 IsLexKind kind.BadToken = Unit {0}

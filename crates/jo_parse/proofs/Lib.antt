@@ -4,3 +4,6 @@ pub mod LexFaults
 pub mod Scripts
 pub mod Turns
 pub mod Within
+pub mod Lines
+pub mod Cutting
+pub mod Bounds

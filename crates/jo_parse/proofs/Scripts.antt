@@ -3,8 +3,8 @@ use Rattle.std.proofs.Common.{ℕ, zero, suc, ◌<◌, List, [], ◌∷◌, leng
 use Rattle.jo_value.specs.Texts.{Table}
 use Rattle.jo_tree.specs.declared.script.Script.{Script}
 use Rattle.jo_tree.specs.ScriptViews.{script_tree}
-use Rattle.jo_scope.specs.Sound.{IsSound}
-use Rattle.jo_set.specs.Soundness.{AreSound}
+use Rattle.jo_grammar.specs.Sound.{IsSound}
+use Rattle.jo_grammar.specs.Soundness.{AreSound}
 
 pub sound_at : (texts : Table) (scripts : List Script) (at : ℕ) (d : Script) → AreSound texts (map script_tree scripts) → at < length scripts
     → IsSound texts (script_tree (get_or scripts at d))

@@ -15,11 +15,12 @@ use Rattle.jo_tree.specs.ScriptViews.{script_tree}
 use Rattle.jo_tree.specs.Trees.{Items}
 use Rattle.jo_grammar.specs.Statements.{IsScript}
 use Rattle.jo_grammar.specs.Refusals.{IsAccepted}
-use Rattle.jo_syntax.specs.Parsed.{IsFault}
-use Rattle.jo_syntax.specs.Terminals.{terminals_of}
-use Rattle.jo_pieces.specs.declared.piece.Piece.{Piece as Part}
-use Rattle.jo_pieces.specs.Cuts.{Piece, piece_of, parts_of, AreWithin}
-use Rattle.jo_set.specs.Sets.{begun, AreRead, IsFirstUnread, AreScripts, IsMisspelled, IsFirstMisspelled}
+use Rattle.jo_grammar.specs.TokenRefusals.{IsFault}
+use Rattle.jo_grammar.specs.Terminals.{terminals_of}
+use Rattle.jo_parse.specs.declared.piece.Piece.{Piece as Part}
+use Rattle.jo_grammar.specs.Cuts.{Piece, AreWithin}
+use Rattle.jo_parse.specs.CutScripts.{piece_of, parts_of}
+use Rattle.jo_grammar.specs.Sets.{begun, AreRead, IsFirstUnread, AreScripts, IsMisspelled, IsFirstMisspelled}
 use Rattle.jo_parse.specs.Stages.{IsTreeFault, lists_of}
 use Rattle.jo_parse.proofs.Within.{views_left, none_left}
 

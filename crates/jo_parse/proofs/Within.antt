@@ -1,6 +1,6 @@
 -- Where the scripts of a set end, and what is left at a turn of a loop over a list.
 use Rattle.std.proofs.Common.{◌≡◌, ◌∙◌, ap, refl, ℕ, zero, suc, ◌+◌, ◌<◌, ◌≤◌, List, [], ◌∷◌, length, map, drop, get_or, add-one, drop-cons, arith}
-use Rattle.jo_pieces.specs.Cuts.{Piece, AreWithin}
+use Rattle.jo_grammar.specs.Cuts.{Piece, AreWithin}
 
 pub within_more : (few most : ℕ) (pieces : List Piece) → few ≤ most → AreWithin few pieces → AreWithin most pieces
 within_more few most [] h w = tt

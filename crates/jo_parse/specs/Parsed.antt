@@ -7,7 +7,7 @@ use Rattle.jo_lex.specs.declared.refusal.ParseFault.TheVariants.{Memory, Refused
 use Rattle.jo_tree.specs.declared.script.Script.{Script}
 use Rattle.jo_tree.specs.ScriptViews.{script_tree}
 use Rattle.jo_tree.specs.Trees.{Items}
-use Rattle.jo_set.specs.Sets.{IsRefusal}
+use Rattle.jo_grammar.specs.Sets.{IsRefusal}
 
 -- a set that was read: its scripts, and the table of their texts
 abbrev pub Parsed : Type 0

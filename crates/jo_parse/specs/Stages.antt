@@ -5,10 +5,10 @@ use Rattle.jo_lex.specs.declared.token.Token.{Token}
 use Rattle.jo_lex.specs.declared.refusal.ParseFault.{ParseFault}
 use Rattle.jo_lex.specs.declared.refusal.ParseFault.TheVariants.{Memory, Refused}
 use Rattle.jo_tree.specs.Trees.{Items}
-use Rattle.jo_scope.specs.Declarations.{Found, first_of_faults}
-use Rattle.jo_judge.specs.Judged.{refusal_for}
-use Rattle.jo_pieces.specs.Cuts.{Piece}
-use Rattle.jo_set.specs.Sets.{IsFirstUnread, IsFirstMisspelled, faults_of_all}
+use Rattle.jo_grammar.specs.Declarations.{Found, first_of_faults}
+use Rattle.jo_grammar.specs.NameRefusals.{refusal_for}
+use Rattle.jo_grammar.specs.Cuts.{Piece}
+use Rattle.jo_grammar.specs.Sets.{IsFirstUnread, IsFirstMisspelled, faults_of_all}
 
 -- the lists of tokens that the code holds
 abbrev pub lists_of : {Z : Type 0} → List (Vec Token Z) → List (List Token)

@@ -1,12 +1,13 @@
 // From bytes to the texts of the scripts.
 ghost use Rattle.std.specs.Prelude.{◌≡◌, ◌≤◌, length, IfErr, IfOk, IsUtf8};
 ghost use Rattle.jo_value.specs.declared.limits.TheConstants.{MOST_INPUT};
-ghost use Rattle.jo_pieces.specs.Cuts.{parts_of, pieces_of};
-ghost use Rattle.jo_set.specs.Sets.{IsCut};
+ghost use Rattle.jo_grammar.specs.Cuts.{pieces_of};
+ghost use Rattle.jo_parse.specs.CutScripts.{parts_of};
+ghost use Rattle.jo_grammar.specs.Sets.{IsCut};
 ghost use Rattle.jo_parse.specs.Parsed.{IsFault};
 
 use jo_lex::{ParseFault, Refusal, RefusalKind};
-use jo_pieces::{Piece, pieces};
+use crate::piece::{Piece, pieces};
 use std::alloc::Global;
 
 // The bytes as text, or the refusal at the first byte that belongs to no whole character.

@@ -1,14 +1,15 @@
 // From the texts of the scripts to their tokens.
 ghost use Rattle.std.specs.Prelude.{◌≡◌, ◌≤◌, length, IfErr, IfOk};
 ghost use Rattle.jo_value.specs.declared.limits.TheConstants.{MOST_INPUT};
-ghost use Rattle.jo_pieces.specs.Cuts.{AreWithin, parts_of};
-ghost use Rattle.jo_set.specs.Sets.{AreRead, IsLexed, is_nothing};
+ghost use Rattle.jo_grammar.specs.Cuts.{AreWithin};
+ghost use Rattle.jo_parse.specs.CutScripts.{parts_of};
+ghost use Rattle.jo_grammar.specs.Sets.{AreRead, IsLexed, is_nothing};
 ghost use Rattle.jo_parse.specs.Parsed.{IsFault};
 ghost use Rattle.jo_parse.specs.Stages.{IsLexFault, lists_of};
 
 use crate::cut::cut;
 use jo_lex::{ParseFault, Refusal, RefusalKind, Token, tokens};
-use jo_pieces::Piece;
+use crate::piece::Piece;
 use jo_value::Texts;
 use std::alloc::{AllocError, Global};
 

@@ -4,6 +4,7 @@
 mod cut;
 mod lex;
 mod named;
+mod piece;
 mod reader;
 mod set;
 mod spell;

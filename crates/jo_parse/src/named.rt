@@ -1,10 +1,10 @@
 // Whether the names of the scripts are declared as they may be.
 ghost use Rattle.std.specs.Prelude.{◌≡◌, [], map, IfErr, OnOk};
-ghost use Rattle.jo_set.specs.Sets.{faults_of_all};
+ghost use Rattle.jo_grammar.specs.Sets.{faults_of_all};
 ghost use Rattle.jo_tree.specs.ScriptViews.{script_tree};
 ghost use Rattle.jo_parse.specs.Stages.{IsFirstNameFault};
 
-use jo_judge::judge;
+use jo_names::judge;
 use jo_lex::ParseFault;
 use jo_tree::Script;
 use std::alloc::Global;

@@ -4,7 +4,7 @@ ghost use Rattle.jo_value.specs.declared.limits.TheConstants.{MOST_INPUT};
 ghost use Rattle.jo_value.specs.Texts.{Table};
 ghost use Rattle.jo_lex.specs.declared.refusal.Refusal.{Refusal};
 ghost use Rattle.jo_tree.specs.Trees.{Items};
-ghost use Rattle.jo_set.specs.Sets.{IsRefusal, IsAcceptedSet};
+ghost use Rattle.jo_grammar.specs.Sets.{IsRefusal, IsAcceptedSet};
 ghost use Rattle.jo_parse.specs.Parsed.{Gives, IsFault, Refuses, trees_of};
 
 use crate::named::judge_all;

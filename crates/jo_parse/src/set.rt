@@ -17,7 +17,7 @@ impl Model for ScriptSet {
     ghost use Rattle.std.specs.Prelude.{◌≤◌, length, map};
     ghost use Rattle.jo_value.specs.declared.limits.TheConstants.{MOST_SCRIPTS};
     ghost use Rattle.jo_tree.specs.ScriptViews.{script_tree};
-    ghost use Rattle.jo_set.specs.Soundness.{AreSound};
+    ghost use Rattle.jo_grammar.specs.Soundness.{AreSound};
     ghost use Rattle.std.specs.Coded.{codes};
     ghost use Rattle.jo_tree.specs.contracts.script.Item as item;
     ghost use Rattle.jo_parse.specs.Parsed.{Parsed};
@@ -35,7 +35,7 @@ impl Model for ScriptSet {
 impl ScriptSet {
     ghost use Rattle.std.specs.Prelude.{◌≡◌, ◌<◌, ◌≤◌, length, slice_get, Some};
     ghost use Rattle.jo_value.specs.declared.limits.TheConstants.{MOST_SCRIPTS};
-    ghost use Rattle.jo_scope.specs.Sound.{IsSound};
+    ghost use Rattle.jo_grammar.specs.Sound.{IsSound};
     ghost use Rattle.jo_parse.specs.Parsed.{trees_of};
     ghost use Rattle.jo_tree.specs.ScriptViews.{script_tree};
 

@@ -1,14 +1,14 @@
 // From the tokens of the scripts to their trees.
 ghost use Rattle.std.specs.Prelude.{◌≤◌, length, map, IfErr, IfOk};
 ghost use Rattle.jo_value.specs.declared.limits.TheConstants.{MOST_INPUT};
-ghost use Rattle.jo_set.specs.Sets.{AreScripts, IsParsed};
+ghost use Rattle.jo_grammar.specs.Sets.{AreScripts, IsParsed};
 ghost use Rattle.jo_tree.specs.ScriptViews.{script_tree};
 ghost use Rattle.jo_parse.specs.Parsed.{IsFault};
 ghost use Rattle.jo_parse.specs.Stages.{IsTreeFault, lists_of};
 
 use crate::lex::lex;
 use jo_lex::{ParseFault, Token};
-use jo_syntax::parse_script;
+use jo_parser::parse_script;
 use jo_tree::Script;
 use jo_value::Texts;
 use std::alloc::{AllocError, Global};

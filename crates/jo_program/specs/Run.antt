@@ -4,7 +4,7 @@ use Rattle.std.specs.Str.{bytes_eq}
 use Rattle.std.specs.declared.alloc.Global.{Global}
 use Rattle.std.specs.Io.KnownBytes.{Consumes, IsAtEnd, Appends}
 use Rattle.jo_value.specs.declared.limits.TheConstants.{MOST_INPUT}
-use Rattle.jo_text.specs.Bytes.{AppendsPart}
+use Rattle.jo_io.specs.Bytes.{AppendsPart}
 use Rattle.jo_answer.specs.declared.due.Verdict.{Verdict}
 use Rattle.jo_answer.specs.declared.due.Verdict.TheVariants as verdict
 use Rattle.jo_answer.specs.Answers.{IsDue, IsRunnable, IsRefusedInput}

@@ -3,14 +3,13 @@ ghost use Rattle.std.specs.Prelude.{◌≡◌, ◌≢◌, ◌⊎◌, ◌+◌, tr
 ghost use Rattle.std.specs.Io.KnownBytes.{Appends};
 ghost use Rattle.jo_value.specs.declared.limits.TheConstants.{MOST_INPUT};
 ghost use Rattle.jo_io.specs.Causes.{Counts};
-ghost use Rattle.jo_text.specs.Bytes.{ConsumesAtMost, AppendsPart};
+ghost use Rattle.jo_io.specs.Bytes.{ConsumesAtMost, AppendsPart};
 ghost use Rattle.jo_answer.specs.declared.due.Verdict.TheVariants as verdict;
 ghost use Rattle.jo_program.specs.Run.{is_run, status_of, IsAnswer, IsJudged, IsDueText, IsUsage, Writes, WritesPart};
 
 use crate::Status;
 use jo_answer::{Answer, Verdict, answer_to};
-use jo_io::{Failed, Sink, Source};
-use jo_text::{ReadError, read_all, write_all};
+use jo_io::{Failed, ReadError, Sink, Source, read_all, write_all};
 use jo_value::MOST_INPUT;
 use std::alloc::Global;
 use std::sync::Wait;

@@ -1,7 +1,7 @@
 // Steps that no script of the small form has, with ample memory.
 use jo_form::{Form, Step};
 use jo_model::Outcome;
-use jo_text::add_heap;
+use jo_render::add_heap;
 use jo_value::{NameId, Texts};
 use jo_walk::walk;
 use sqlite_items::Items;

@@ -1,7 +1,7 @@
 // Whole texts, with ample memory, and that no call is made that is not needed.
-use jo_io::{Failed, MemorySink, MemorySource, Sink, Source};
+use jo_io::{Failed, MemorySink, MemorySource, ReadError, Sink, Source, read_all, write_all};
 use jo_model::Outcome;
-use jo_text::{ReadError, add_line, add_run, add_value, read_all, write_all};
+use jo_render::{add_line, add_run, add_value};
 use jo_value::{ObjId, TextId, Texts, Value};
 use std::test::Fail;
 

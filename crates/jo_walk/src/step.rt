@@ -6,7 +6,7 @@ ghost use Rattle.jo_walk.specs.Walks.{IsReady, after_step, put_shared, after_lin
 
 use jo_form::Step;
 use jo_model::{Call, Outcome, PlainHeap, Reply};
-use jo_text::add_line;
+use jo_render::add_line;
 use jo_value::{Key, MOST_LINE_BYTES, NameId, ObjId, Texts, Value};
 use std::alloc::{AllocError, Global};
 

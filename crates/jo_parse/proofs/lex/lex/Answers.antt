@@ -1,10 +1,11 @@
 use Rattle.std.proofs.Common.{◌∙◌, sym, ap, subst, rules, length}
 use Rattle.jo_value.specs.declared.limits.TheConstants.{MOST_INPUT}
-use Rattle.jo_pieces.specs.Cuts.{AreWithin, parts_of, pieces_of}
+use Rattle.jo_grammar.specs.Cuts.{AreWithin, pieces_of}
+use Rattle.jo_parse.specs.CutScripts.{parts_of}
 use Rattle.jo_parse.specs.Parsed.{IsFault}
 use Rattle.jo_parse.specs.Stages.{IsLexFault}
 use Rattle.jo_parse.proofs.Faults.{lex_fault}
-use Rattle.jo_pieces.proofs.Bounds.{pieces_are_within}
+use Rattle.jo_parse.proofs.Bounds.{pieces_are_within}
 use Rattle.jo_parse.proofs.Within.{within_more}
 use Rattle.jo_parse.proofs.lex.lex.Goals as goal
 

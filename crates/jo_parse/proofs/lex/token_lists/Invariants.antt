@@ -1,5 +1,5 @@
 use Rattle.std.proofs.Common.{drop}
-use Rattle.jo_pieces.specs.Cuts.{parts_of}
+use Rattle.jo_parse.specs.CutScripts.{parts_of}
 use Rattle.jo_parse.specs.Stages.{lists_of}
 use Rattle.jo_parse.proofs.Turns.{Reads}
 use Rattle.jo_parse.proofs.lex.token_lists.Given as goal

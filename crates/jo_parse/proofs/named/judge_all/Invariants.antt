@@ -1,5 +1,5 @@
 use Rattle.std.proofs.Common.{◌≡◌, drop, map}
-use Rattle.jo_set.specs.Sets.{faults_of_all}
+use Rattle.jo_grammar.specs.Sets.{faults_of_all}
 use Rattle.jo_tree.specs.ScriptViews.{script_tree}
 use Rattle.jo_parse.proofs.named.judge_all.Given as goal
 

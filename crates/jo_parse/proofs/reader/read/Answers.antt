@@ -2,8 +2,8 @@ use Rattle.std.proofs.Common.{◌≡◌, ◌≤◌, subst, [], length, map, arit
 use Rattle.std.proofs.lemmas.List.{length-map}
 use Rattle.jo_value.specs.declared.limits.TheConstants.{MOST_SCRIPTS}
 use Rattle.jo_tree.specs.ScriptViews.{script_tree}
-use Rattle.jo_set.specs.Sets.{IsAcceptedSet, faults_of_all}
-use Rattle.jo_set.proofs.SetsAreSound.{sets_are_few, sets_are_sound}
+use Rattle.jo_grammar.specs.Sets.{IsAcceptedSet, faults_of_all}
+use Rattle.jo_grammar.proofs.SetsAreSound.{sets_are_few, sets_are_sound}
 use Rattle.jo_parse.proofs.reader.read.Goals as goal
 
 pub invariant_of-result : goal.invariant_of-result

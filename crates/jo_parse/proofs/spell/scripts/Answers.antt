@@ -4,8 +4,8 @@ use Rattle.jo_value.specs.declared.limits.TheConstants.{MOST_OPEN}
 use Rattle.jo_tree.specs.ScriptViews.{script_tree}
 use Rattle.jo_grammar.specs.Statements.{IsScript}
 use Rattle.jo_grammar.specs.Refusals.{IsAccepted}
-use Rattle.jo_syntax.specs.Parsed.{IsFault}
-use Rattle.jo_syntax.specs.Terminals.{terminals_of}
+use Rattle.jo_grammar.specs.TokenRefusals.{IsFault}
+use Rattle.jo_grammar.specs.Terminals.{terminals_of}
 use Rattle.jo_parse.specs.Stages.{IsTreeFault, lists_of}
 use Rattle.jo_parse.proofs.Turns.{spell_turn, spell_fault, spell_end}
 use Rattle.jo_parse.proofs.spell.scripts.Goals as goal

@@ -1,0 +1,120 @@
+-- The pieces of a text: each is a text, and none is longer than the whole.
+use Rattle.std.proofs.Common.{◌≡◌, ℕ, ◌+◌, ◌≤◌, ◌==◌, Bool, true, false, List, [], ◌∷◌, ◌++◌, length, if◌then◌else◌, get_or, refl, sym, ap, subst, ◌∙◌, arith, append_assoc, append-nil, length-append, take_at, drop_at}
+use Rattle.std.proofs.Math.Seq.{get_or-append_seam}
+use Rattle.std.proofs.lemmas.Bool.{eqb-true}
+use Rattle.std.proofs.lemmas.Str.{IsUtf8-nil, IsUtf8-append, IsUtf8-take, IsUtf8-drop, IsCharBoundary-after_ascii}
+use Rattle.std.specs.List.{concat}
+use Rattle.std.specs.Str.{IsUtf8, IsCharBoundary}
+use Rattle.jo_grammar.specs.Cuts.{Piece, with_first, lines_of, is_separator, pieces_from, pieces_of}
+
+-- ---- lines
+
+with_first-join : (b : ℕ) (lines : List (List ℕ)) → concat (with_first b lines) ≡ b ∷ concat lines
+with_first-join b [] = refl
+with_first-join b (line ∷ lines) = refl
+
+lines-join : (text : List ℕ) → concat (lines_of text) ≡ text
+unfolding lines_of
+lines-join [] = refl
+lines-join (b ∷ text) = step (b == 10) (lines-join text)
+  where
+    step : (k : Bool) → concat (lines_of text) ≡ text → concat (if k then (b ∷ []) ∷ lines_of text else with_first b (lines_of text)) ≡ b ∷ text
+    step true ih = ap (λ t. b ∷ t) ih
+    step false ih = with_first-join b (lines_of text) ∙ ap (λ t. b ∷ t) ih
+
+-- a line before others ends in a line feed
+abbrev IsEnded : List ℕ → List (List ℕ) → Type 0
+IsEnded line [] = Unit {0}
+IsEnded line (next ∷ lines) = (front : List ℕ) × (line ≡ front ++ 10 ∷ [])
+
+abbrev AreEnded : List (List ℕ) → Type 0
+AreEnded [] = Unit {0}
+AreEnded (line ∷ lines) = IsEnded line lines × AreEnded lines
+
+ended-feed : (lines : List (List ℕ)) → IsEnded (10 ∷ []) lines
+ended-feed [] = tt
+ended-feed (next ∷ lines) = ([], refl)
+
+ended-first : (b : ℕ) (line : List ℕ) (lines : List (List ℕ)) → IsEnded line lines → IsEnded (b ∷ line) lines
+ended-first b line [] h = tt
+ended-first b line (next ∷ lines) h = (b ∷ h.0, ap (λ t. b ∷ t) h.1)
+
+with_first-ended : (b : ℕ) (lines : List (List ℕ)) → AreEnded lines → AreEnded (with_first b lines)
+with_first-ended b [] h = (tt, tt)
+with_first-ended b (line ∷ lines) h = (ended-first b line lines h.0, h.1)
+
+lines-ended : (text : List ℕ) → AreEnded (lines_of text)
+unfolding lines_of
+lines-ended [] = tt
+lines-ended (b ∷ text) = step (b == 10) refl (lines-ended text)
+  where
+    step : (k : Bool) → (b == 10) ≡ k → AreEnded (lines_of text) → AreEnded (if k then (b ∷ []) ∷ lines_of text else with_first b (lines_of text))
+    step true e ih = (subst (λ c. IsEnded (c ∷ []) (lines_of text)) (sym (eqb-true b 10 e)) (ended-feed (lines_of text)), ih)
+    step false e ih = with_first-ended b (lines_of text) ih
+
+abbrev AreTexts : List (List ℕ) → Type 0
+AreTexts [] = Unit {0}
+AreTexts (line ∷ lines) = IsUtf8 line × AreTexts lines
+
+-- behind a line feed a text may be cut
+cut-behind : (front rest : List ℕ) → IsUtf8 ((front ++ 10 ∷ []) ++ rest) → IsUtf8 (front ++ 10 ∷ []) × IsUtf8 rest
+cut-behind front rest u =
+    let line = front ++ 10 ∷ [] in
+    let n = length front in
+    let size : length line ≡ n + 1 = omega (arith, length-append front (10 ∷ [])) in
+    let feed : get_or (line ++ rest) n 0 ≡ 10 = ap (λ t. get_or t n 0) (append_assoc front (10 ∷ []) rest) ∙ get_or-append_seam front 10 rest 0 in
+    let boundary : IsCharBoundary (line ++ rest) (n + 1) = IsCharBoundary-after_ascii (line ++ rest) n u (omega (arith, size, length-append line rest)) (omega (arith, feed)) in
+    (subst IsUtf8 (take_at line rest (n + 1) size) (IsUtf8-take (line ++ rest) (n + 1) u boundary), subst IsUtf8 (drop_at line rest (n + 1) size) (IsUtf8-drop (line ++ rest) (n + 1) u boundary))
+
+first-text : (line : List ℕ) (lines : List (List ℕ)) → IsEnded line lines → IsUtf8 (line ++ concat lines) → IsUtf8 line × IsUtf8 (concat lines)
+first-text line [] h u = (subst IsUtf8 (append-nil line) u, IsUtf8-nil)
+first-text line (next ∷ lines) h u =
+    let rest = concat (next ∷ lines) in
+    let parts = cut-behind h.0 rest (subst (λ t. IsUtf8 (t ++ rest)) h.1 u) in
+    (subst IsUtf8 (sym h.1) parts.0, parts.1)
+
+lines-texts : (lines : List (List ℕ)) → AreEnded lines → IsUtf8 (concat lines) → AreTexts lines
+lines-texts [] h u = tt
+lines-texts (line ∷ lines) h u =
+    let parts = first-text line lines h.0 u in
+    (parts.0, lines-texts lines h.1 parts.1)
+
+-- ---- scripts
+
+-- each piece is a text of at most so many bytes
+abbrev pub AreShort : ℕ → List Piece → Type 0
+AreShort most [] = Unit {0}
+AreShort most (piece ∷ pieces) = IsUtf8 piece.text × (length piece.text ≤ most) × AreShort most pieces
+
+cut-short : (most start : ℕ) (text : List ℕ) (lines : List (List ℕ)) → IsUtf8 text → AreTexts lines → length text + length (concat lines) ≤ most → AreShort most (pieces_from start text lines)
+unfolding pieces_from
+cut-short most start text [] u us le = (u, omega (arith, le), tt)
+cut-short most start text (line ∷ lines) u us le =
+    let whole = length-append line (concat lines) in
+    step (is_separator line)
+    (cut-short most (start + length text + length line) [] lines IsUtf8-nil us.1 (omega (arith, le, whole)))
+    (cut-short most start (text ++ line) lines (IsUtf8-append text line u us.0) us.1 (omega (arith, le, whole, length-append text line)))
+  where
+    step : (k : Bool) → AreShort most (pieces_from (start + length text + length line) [] lines) → AreShort most (pieces_from start (text ++ line) lines)
+        → AreShort most (if k then record { start = start; text = text } ∷ pieces_from (start + length text + length line) [] lines else pieces_from start (text ++ line) lines)
+    step true anew further = (u, omega (arith, le), anew)
+    step false anew further = further
+
+pub pieces-short : (bytes : List ℕ) → IsUtf8 bytes → AreShort (length bytes) (pieces_of bytes)
+pieces-short bytes u =
+    let join = lines-join bytes in
+    cut-short (length bytes) 0 [] (lines_of bytes) IsUtf8-nil (lines-texts (lines_of bytes) (lines-ended bytes) (subst IsUtf8 (sym join) u)) (omega (arith, ap length join))
+
+cut-some : (start : ℕ) (text : List ℕ) (lines : List (List ℕ)) → 1 ≤ length (pieces_from start text lines)
+unfolding pieces_from
+cut-some start text [] = omega arith
+cut-some start text (line ∷ lines) = step (is_separator line) (cut-some start (text ++ line) lines)
+  where
+    step : (k : Bool) → 1 ≤ length (pieces_from start (text ++ line) lines)
+        → 1 ≤ length (if k then record { start = start; text = text } ∷ pieces_from (start + length text + length line) [] lines else pieces_from start (text ++ line) lines)
+    step true further = omega arith
+    step false further = further
+
+-- there is a piece
+pub pieces-some : (bytes : List ℕ) → 1 ≤ length (pieces_of bytes)
+pieces-some bytes = cut-some 0 [] (lines_of bytes)

@@ -1,0 +1,244 @@
+-- The tokens of a script that is read: their texts are in the table after it, their numbers in range, and the table has only grown.
+use Rattle.std.proofs.Common.{◌≡◌, ℕ, zero, suc, ◌+◌, ◌-◌, ◌<◌, ◌≤◌, ◌==◌, ◌||◌, nat_le, nat_lt, Bool, true, false, List, [], ◌∷◌, ◌++◌, length, Option, Some, None, unwrap_or, if◌then◌else◌, refl, sym, ap, subst, ◌∙◌, arith, length-append, append-nil, append_assoc}
+use Rattle.std.proofs.lemmas.Bool.{leb-true, ltb-true}
+use Rattle.std.specs.List.{take_while}
+use Rattle.std.specs.Str.{encode_utf8_all}
+use Rattle.std.specs.Prelude.{pos}
+use Rattle.jo_value.specs.declared.limits.TheConstants.{MOST_NUMBER, MOST_TEXT_BYTES}
+use Rattle.jo_value.specs.declared.value.TextId.{TextId}
+use Rattle.jo_value.specs.Texts.{Table, number_in, interned}
+use Rattle.jo_value.proofs.Places.{place_within}
+use Rattle.jo_lex.specs.declared.punct.Punct.{Punct}
+use Rattle.jo_lex.specs.declared.token.Token.{Token}
+use Rattle.jo_lex.specs.declared.token.TokenKind.{TokenKind}
+use Rattle.jo_lex.specs.declared.token.TokenKind.TheVariants as kind
+use Rattle.jo_lex.specs.declared.refusal.RefusalKind.TheVariants.{BadToken, NumberTooLarge}
+use Rattle.jo_lex.specs.Characters.{Characters, size, is_blank, is_digit, is_in_line, is_word_part, is_word_start, is_spoiler, begins_with, drop_while}
+use Rattle.jo_lex.specs.Punctuators.{Entry, punctuator_of}
+use Rattle.jo_lex.specs.Words.{is_reserved}
+use Rattle.jo_lex.specs.Pieces.{Lexeme, word, text, number, punctuator, Piece, gap, lexeme, fault, after_close, closed, comment, word_piece, quoted, text_piece, decimal, judged, number_piece, accepted, punctuator_piece, token_piece, piece}
+use Rattle.jo_lex.specs.Tokens.{State, Next, ended, refused, onward, is_one_too_many, numbered, word_kind, kind_of, place_after, with_token, taken, next_of, next, going_on, reached, start, last, end_token, IsRead}
+use Rattle.jo_grammar.specs.Sound.{IsInRange}
+
+-- ---- numbers in pieces
+
+abbrev IsRanged : Lexeme → Type 0
+IsRanged (word bytes) = Unit {0}
+IsRanged (number i) = IsInRange i
+IsRanged (text bytes) = Unit {0}
+IsRanged (punctuator c) = Unit {0}
+
+abbrev HasRange : Piece → Type 0
+HasRange (gap rest) = Unit {0}
+HasRange (lexeme l rest) = IsRanged l
+HasRange (fault k) = Unit {0}
+
+range-if : (b : Bool) (p q : Piece) → HasRange p → HasRange q → HasRange (if b then p else q)
+range-if true p q h k = h
+range-if false p q h k = k
+
+judged-range : (n : ℕ) (rest : Characters) → HasRange (judged n rest)
+judged-range n rest = range-if (begins_with is_spoiler rest) (fault BadToken) (if nat_le n MOST_NUMBER then lexeme (number (pos n)) rest else fault NumberTooLarge) tt (step (nat_le n MOST_NUMBER) refl)
+  where
+    step : (b : Bool) → nat_le n MOST_NUMBER ≡ b → HasRange (if b then lexeme (number (pos n)) rest else fault NumberTooLarge)
+    step true e = leb-true n MOST_NUMBER e
+    step false e = tt
+
+number-range : (c : ℕ) (cs : Characters) → HasRange (number_piece c cs)
+number-range c cs =
+    let n = decimal (c - 48) (take_while is_digit cs) in
+    range-if (c == 48) (judged 0 cs) (judged n (drop_while is_digit cs)) (judged-range 0 cs) (judged-range n (drop_while is_digit cs))
+
+text-range : (found : Option (List ℕ × Characters)) → HasRange (text_piece found)
+text-range None = tt
+text-range (Some p) = range-if (nat_le (length p.0) MOST_TEXT_BYTES) (lexeme (text p.0) p.1) (fault BadToken) tt tt
+
+accepted-range : (value : Option Punct) (rest : Characters) → HasRange (accepted value rest)
+accepted-range None rest = tt
+accepted-range (Some c) rest = tt
+
+punctuator-range : (found : Option Entry) (cs : Characters) → HasRange (punctuator_piece found cs)
+punctuator-range None cs = tt
+punctuator-range (Some entry) cs = accepted-range entry.1 _
+
+word-range : (c : ℕ) (cs : Characters) → HasRange (word_piece c cs)
+word-range c cs =
+    let bytes = encode_utf8_all (c ∷ take_while is_word_part cs) in
+    range-if (nat_le (length bytes) MOST_TEXT_BYTES) (lexeme (word bytes) (drop_while is_word_part cs)) (fault BadToken) tt tt
+
+token-range : (c : ℕ) (cs : Characters) → HasRange (token_piece c cs)
+token-range c cs =
+    let literal = text_piece (quoted false c cs) in
+    let operator = punctuator_piece (punctuator_of (c ∷ cs)) (c ∷ cs) in
+    let other : Piece = if c == 34 || c == 39 then literal else operator in
+    range-if (is_word_start c) (word_piece c cs) (if is_digit c then number_piece c cs else other) (word-range c cs)
+    (range-if (is_digit c) (number_piece c cs) other (number-range c cs)
+    (range-if (c == 34 || c == 39) literal operator (text-range (quoted false c cs)) (punctuator-range (punctuator_of (c ∷ cs)) (c ∷ cs))))
+
+closed-range : (rest : Option Characters) → HasRange (closed rest)
+closed-range None = tt
+closed-range (Some rest) = tt
+
+comment-range : (cs : Characters) (other : Piece) → HasRange other → HasRange (unwrap_or (comment cs) other)
+comment-range [] other h = h
+comment-range (c ∷ cs) other h = step (c == 47) (c == 42)
+  where
+    step : (a b : Bool) → HasRange (unwrap_or (if a then Some (gap (drop_while is_in_line cs)) else (if b then Some (closed (after_close cs)) else None)) other)
+    step true b = tt
+    step false true = closed-range (after_close cs)
+    step false false = h
+
+piece-range : (c : ℕ) (cs : Characters) → HasRange (piece c cs)
+unfolding piece
+piece-range c cs =
+    let token = token_piece c cs in
+    range-if (is_blank c) (gap (drop_while is_blank cs)) (if c == 47 then unwrap_or (comment cs) token else token) tt
+    (range-if (c == 47) (unwrap_or (comment cs) token) token (comment-range cs token (token-range c cs)) (token-range c cs))
+
+-- ---- tables
+
+-- the table with more texts behind
+abbrev pub Extends : Table → Table → Type 0
+Extends texts after = (behind : Table) × (after ≡ texts ++ behind)
+
+pub extends-itself : (texts : Table) → Extends texts texts
+extends-itself texts = ([], sym (append-nil texts))
+
+pub extends-further : (first second third : Table) → Extends first second → Extends second third → Extends first third
+extends-further first second third h k = (h.0 ++ k.0, k.1 ∙ ap (λ t. t ++ k.0) h.1 ∙ append_assoc first h.0 k.0)
+
+pub extends-length : (texts after : Table) → Extends texts after → length texts ≤ length after
+extends-length texts after h = omega (arith, ap length h.1, length-append texts h.0)
+
+-- the text is in the table with it, and the table has only grown
+interned-good : (texts : Table) (bytes : List ℕ) → (number_in texts bytes < length (interned texts bytes)) × Extends texts (interned texts bytes)
+interned-good texts bytes = step (nat_lt (number_in texts bytes) (length texts)) refl
+  where
+    step : (b : Bool) → nat_lt (number_in texts bytes) (length texts) ≡ b
+        → (number_in texts bytes < length (if b then texts else texts ++ bytes ∷ [])) × Extends texts (if b then texts else texts ++ bytes ∷ [])
+    step true e = (ltb-true _ _ e, extends-itself texts)
+    step false e = (omega (arith, place_within texts bytes, length-append texts (bytes ∷ [])), (bytes ∷ [], refl))
+
+-- ---- kinds
+
+-- the text of the kind is among so many, and its number is in range
+abbrev pub IsGoodKind : ℕ → TokenKind → Type 0
+IsGoodKind n (kind.Word id) = id.0 < n
+IsGoodKind n (kind.Reserved id) = id.0 < n
+IsGoodKind n (kind.Number i) = IsInRange i
+IsGoodKind n (kind.Text id) = id.0 < n
+IsGoodKind n (kind.Punct c) = Unit {0}
+IsGoodKind n kind.End = Unit {0}
+
+kind-wider : (m n : ℕ) (k : TokenKind) → m ≤ n → IsGoodKind m k → IsGoodKind n k
+kind-wider m n (kind.Word id) le h = omega (arith, le, h)
+kind-wider m n (kind.Reserved id) le h = omega (arith, le, h)
+kind-wider m n (kind.Number i) le h = h
+kind-wider m n (kind.Text id) le h = omega (arith, le, h)
+kind-wider m n (kind.Punct c) le h = tt
+kind-wider m n kind.End le h = tt
+
+abbrev IsGoodFound : Table → Option (TokenKind × Table) → Type 0
+IsGoodFound texts None = Unit {0}
+IsGoodFound texts (Some found) = IsGoodKind (length found.1) found.0 × Extends texts found.1
+
+numbered-good : (of : TextId → TokenKind) (texts : Table) (bytes : List ℕ) → ((n : ℕ) (id : TextId) → id.0 < n → IsGoodKind n (of id)) → IsGoodFound texts (numbered of texts bytes)
+numbered-good of texts bytes good = step (is_one_too_many texts bytes)
+  where
+    step : (b : Bool) → IsGoodFound texts (if b then None else Some (of (record { 0 = number_in texts bytes }), interned texts bytes))
+    step true = tt
+    step false = let h = interned-good texts bytes in (good (length (interned texts bytes)) (record { 0 = number_in texts bytes }) h.0, h.1)
+
+word-good : (b : Bool) (n : ℕ) (id : TextId) → id.0 < n → IsGoodKind n (word_kind b id)
+word-good true n id h = h
+word-good false n id h = h
+
+kind-good : (texts : Table) (l : Lexeme) → IsRanged l → IsGoodFound texts (kind_of texts l)
+kind-good texts (word bytes) h = numbered-good (word_kind (is_reserved bytes)) texts bytes (word-good (is_reserved bytes))
+kind-good texts (number i) h = (h, extends-itself texts)
+kind-good texts (text bytes) h = numbered-good kind.Text texts bytes (λ n id h. h)
+kind-good texts (punctuator c) h = (tt, extends-itself texts)
+
+-- ---- tokens
+
+abbrev pub AreGoodTokens : ℕ → List Token → Type 0
+AreGoodTokens n [] = Unit {0}
+AreGoodTokens n (token ∷ tokens) = IsGoodKind n token.kind × AreGoodTokens n tokens
+
+pub tokens-wider : (m n : ℕ) (tokens : List Token) → m ≤ n → AreGoodTokens m tokens → AreGoodTokens n tokens
+tokens-wider m n [] le h = tt
+tokens-wider m n (token ∷ tokens) le h = (kind-wider m n token.kind le h.0, tokens-wider m n tokens le h.1)
+
+tokens-push : (n : ℕ) (tokens : List Token) (token : Token) → AreGoodTokens n tokens → IsGoodKind n token.kind → AreGoodTokens n (tokens ++ token ∷ [])
+tokens-push n [] token h k = (k, tt)
+tokens-push n (first ∷ tokens) token h k = (h.0, tokens-push n tokens token h.1 k)
+
+-- ---- from piece to piece
+
+-- from a table at most so many tokens were read, which are good for the table now
+record IsGoodState (texts : Table) (most : ℕ) (s : State) : Type 0 where
+  good : AreGoodTokens (length s.table) s.tokens
+  grown : Extends texts s.table
+  few : length s.tokens ≤ most
+
+abbrev GoesOnGood : Table → ℕ → Next → Type 0
+GoesOnGood texts most ended = Unit {0}
+GoesOnGood texts most (refused k) = Unit {0}
+GoesOnGood texts most (onward s) = IsGoodState texts most s
+
+token-good : (texts : Table) (most : ℕ) (s : State) (rest : Characters) (found : Option (TokenKind × Table)) → IsGoodFound s.table found → IsGoodState texts most s → GoesOnGood texts (most + 1) (with_token s rest found)
+token-good texts most s rest None h k = tt
+token-good texts most s rest (Some found) h k =
+    let token : Token = record { kind = found.0; start = s.place; end = place_after s rest } in record {
+      good = tokens-push (length found.1) s.tokens token (tokens-wider (length s.table) (length found.1) s.tokens (extends-length s.table found.1 h.1) k.good) h.0;
+      grown = extends-further texts s.table found.1 k.grown h.1;
+      few = omega (arith, k.few, length-append s.tokens (token ∷ []));
+    }
+
+taken-good : (texts : Table) (most : ℕ) (s : State) (p : Piece) → HasRange p → IsGoodState texts most s → GoesOnGood texts (most + 1) (taken s p)
+taken-good texts most s (gap rest) h k = record { good = k.good; grown = k.grown; few = omega (arith, k.few) }
+taken-good texts most s (lexeme l rest) h k = token-good texts most s rest (kind_of s.table l) (kind-good s.table l h) k
+taken-good texts most s (fault f) h k = tt
+
+next-good : (texts : Table) (most : ℕ) (s : State) (cs : Characters) → IsGoodState texts most s → GoesOnGood texts (most + 1) (next_of s cs)
+next-good texts most s [] k = tt
+next-good texts most s (c ∷ cs) k = taken-good texts most s (piece c cs) (piece-range c cs) k
+
+state-wider : (texts : Table) (most n : ℕ) (s : State) → most ≤ n → IsGoodState texts most s → IsGoodState texts n s
+state-wider texts most n s le k = record { good = k.good; grown = k.grown; few = omega (arith, le, k.few) }
+
+going-good : (texts : Table) (n most : ℕ) (s : State) (x : Next) → GoesOnGood texts (most + 1) x → IsGoodState texts most s
+    → ((t : State) → IsGoodState texts (most + 1) t → IsGoodState texts (n + (most + 1)) (reached n t)) → IsGoodState texts (suc n + most) (going_on (reached n) s x)
+going-good texts n most s ended h k ih = state-wider texts most (suc n + most) s (omega arith) k
+going-good texts n most s (refused f) h k ih = state-wider texts most (suc n + most) s (omega arith) k
+going-good texts n most s (onward t) h k ih = state-wider texts (n + (most + 1)) (suc n + most) (reached n t) (omega arith) (ih t h)
+
+reached-good : (texts : Table) (n most : ℕ) (s : State) → IsGoodState texts most s → IsGoodState texts (n + most) (reached n s)
+unfolding reached
+reached-good texts zero most s k = state-wider texts most (0 + most) s (omega arith) k
+reached-good texts (suc n) most s k = going-good texts n most s (next s) (next-good texts most s s.rest k) k (λ t h. reached-good texts n (most + 1) t h)
+
+-- ---- a whole script
+
+-- the tokens are good for the table, and so many at most stand before their end
+pub record IsGoodList (texts : Table) (most : ℕ) (tokens : List Token) : Type 0 where
+  pub good : AreGoodTokens (length texts) tokens
+  pub before : List Token
+  pub place : ℕ
+  pub tokens_are : tokens ≡ before ++ end_token place ∷ []
+  pub few : length before ≤ most
+
+pub read-good : (base : ℕ) (texts : Table) (cs : Characters) (tokens : List Token) (after : Table) → IsRead (start base texts cs) tokens after → IsGoodList after (size cs) tokens × Extends texts after
+read-good base texts cs tokens after h =
+    let s = last (start base texts cs) in
+    let begins : IsGoodState texts 0 (start base texts cs) = record { good = tt; grown = extends-itself texts; few = omega arith } in
+    let k : IsGoodState texts (size cs + 0) s = reached-good texts (size cs) 0 (start base texts cs) begins in (
+      record {
+        good = subst (λ ts. AreGoodTokens (length after) ts) (sym h.tokens_are) (tokens-push (length after) s.tokens (end_token s.place) (subst (λ t. AreGoodTokens (length t) s.tokens) (sym h.table_is) k.good) tt);
+        before = s.tokens;
+        place = s.place;
+        tokens_are = h.tokens_are;
+        few = omega (arith, k.few);
+      },
+      subst (Extends texts) (sym h.table_is) k.grown,
+    )

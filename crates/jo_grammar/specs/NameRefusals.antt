@@ -1,0 +1,22 @@
+-- What the code answers of a script's names.
+use Rattle.std.specs.Prelude.{◌≡◌, Some}
+use Rattle.jo_lex.specs.declared.refusal.ParseFault.{ParseFault}
+use Rattle.jo_lex.specs.declared.refusal.ParseFault.TheVariants.{Memory, Refused}
+use Rattle.jo_lex.specs.declared.refusal.Refusal.{Refusal}
+use Rattle.jo_lex.specs.declared.refusal.RefusalKind.{RefusalKind}
+use Rattle.jo_lex.specs.declared.refusal.RefusalKind.TheVariants.{Undeclared, Twice}
+use Rattle.jo_tree.specs.Trees.{Items}
+use Rattle.jo_grammar.specs.Declarations.{ScopeFault, undeclared, twice, Found, refusal_of}
+
+abbrev pub kind_of : ScopeFault → RefusalKind
+kind_of undeclared = Undeclared
+kind_of twice = Twice
+
+-- the refusal for a fault, at its place
+abbrev pub refusal_for : Found → Refusal
+refusal_for found = record { kind = kind_of found.0; place = found.1 }
+
+-- want of memory, or the refusal for the first fault of the script
+abbrev pub IsNameFault : Items → ParseFault → Type 0
+IsNameFault script Memory = Unit {0}
+IsNameFault script (Refused refusal) = (found : Found) × (refusal_of script ≡ Some found) × (refusal ≡ refusal_for found)

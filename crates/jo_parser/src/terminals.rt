@@ -1,0 +1,78 @@
+// From the tokens of a script to the terminals of the grammar.
+ghost use Rattle.std.specs.Prelude.{◌≡◌, IfOk};
+ghost use Rattle.jo_grammar.specs.Terminals as spec;
+
+use jo_grammar::Terminal;
+use jo_lex::{Token, TokenKind};
+use jo_tree::{Ident, Keyword, Literal};
+use jo_value::{TextId, Texts};
+use std::alloc::{AllocError, Global};
+
+// The name that is no key of an object literal. Variables may have it.
+const PROTO: &str = "__proto__";
+
+fn text(texts: &Texts, id: TextId) -> &[u8]
+    ensures { result.now ≡ spec.text_at texts.now id }
+{
+    if id.0 < texts.len() {
+        texts.bytes(id)
+    } else {
+        &[]
+    }
+}
+
+fn is_proto(texts: &Texts, id: TextId) -> bool
+    ensures { result ≡ spec.is_proto texts.now id }
+{
+    text(texts, id) == PROTO.as_bytes()
+}
+
+fn reserved(texts: &Texts, id: TextId) -> Terminal
+    ensures { result ≡ spec.reserved texts.now id }
+{
+    match Keyword::of(text(texts, id)) {
+        Some(keyword) => Terminal::Keyword(keyword),
+        None => Terminal::Reserved(id),
+    }
+}
+
+fn terminal(texts: &Texts, token: &Token) -> Terminal
+    ensures { result ≡ spec.terminal_of texts.now token.now }
+{
+    match token.kind {
+        TokenKind::Word(id) => Terminal::Ident(Ident {
+            text: id,
+            place: token.start,
+            is_proto: is_proto(texts, id),
+        }),
+        TokenKind::Reserved(id) => reserved(texts, id),
+        TokenKind::Number(number) => Terminal::Number(number),
+        TokenKind::Text(id) => Terminal::Text(Literal {
+            text: id,
+            is_proto: is_proto(texts, id),
+        }),
+        TokenKind::Punct(punct) => Terminal::Punct(punct),
+        TokenKind::End => Terminal::End,
+    }
+}
+
+fn is_end(token: &Token) -> bool
+    ensures { result ≡ spec.is_end token.now }
+{
+    matches!(token.kind, TokenKind::End)
+}
+
+/// The terminals of the tokens before the end.
+pub(crate) fn terminals(
+    alloc: Global,
+    tokens: &[Token],
+    texts: &Texts,
+) -> Result<Vec<Terminal>, AllocError>
+    ensures { IfOk result (λ found. found.items ≡ spec.terminals_of texts.now tokens.now) }
+{
+    tokens
+        .iter()
+        .take_while(|token| !is_end(token))
+        .map(|token| terminal(texts, token))
+        .collect(alloc)
+}

@@ -1,0 +1,12 @@
+//! The text of a value, and the output text of a run.
+#![tactic(auto)]
+
+mod heap;
+mod output;
+mod properties;
+mod quoted;
+mod value;
+
+pub use heap::add_heap;
+pub use output::add_run;
+pub use value::{add_line, add_value};

@@ -1,0 +1,87 @@
+// The text of values in a line. Each call puts it at the end of a text.
+ghost use Rattle.std.specs.Prelude.{◌≡◌, ◌++◌, OnOk, codes, map};
+ghost use Rattle.jo_model.specs.Printed.{text_in, object_text, value_text, line_of};
+ghost use Rattle.jo_render.specs.Pieces.{each_behind};
+
+use jo_value::{ObjId, TextId, Texts, Value};
+use std::alloc::{AllocError, Global};
+
+/// Puts the text of a value at the end. A text that the table lacks is empty.
+///
+/// After an `Err` nothing is promised of the text.
+pub fn add_value(
+    alloc: Global,
+    text: &mut Vec<u8>,
+    texts: &Texts,
+    value: Value,
+) -> Result<(), AllocError>
+    ensures { OnOk result (text.new.items ≡ text.old.items ++ value_text texts.now value) }
+{
+    match value {
+        Value::Undefined => text.extend_from_slice(b"undefined"),
+        Value::Null => text.extend_from_slice(b"null"),
+        Value::Bool(true) => text.extend_from_slice(b"true"),
+        Value::Bool(false) => text.extend_from_slice(b"false"),
+        Value::Int(number) => text.extend_from_slice(number.to_string(alloc)?.as_bytes()),
+        Value::Text(id) => text.extend_from_slice(bytes_of(texts, id)),
+        Value::Object(object) => add_object_name(alloc, text, object),
+    }
+}
+
+// Puts the name of an object at the end.
+fn add_object_name(alloc: Global, text: &mut Vec<u8>, object: ObjId) -> Result<(), AllocError>
+    ensures { OnOk result (text.new.items ≡ text.old.items ++ object_text object) }
+{
+    let name = format!(in alloc; "#{}.{}", object.pass, object.number)?;
+    text.extend_from_slice(name.as_bytes())?;
+    Ok(())
+}
+
+/// The bytes of the text with a number; none where the table lacks it.
+pub(crate) fn bytes_of(texts: &Texts, id: TextId) -> &[u8]
+    ensures { result.now ≡ text_in texts.now id.0 }
+{
+    if id.0 < texts.len() {
+        texts.bytes(id)
+    } else {
+        b""
+    }
+}
+
+/// Puts the line that values print at the end, without its end.
+///
+/// After an `Err` nothing is promised of the text.
+pub fn add_line(
+    alloc: Global,
+    text: &mut Vec<u8>,
+    texts: &Texts,
+    values: &[Value],
+) -> Result<(), AllocError>
+    ensures { OnOk result (text.new.items ≡ text.old.items ++ line_of texts.now values.now) }
+{
+    match values {
+        [] => Ok(()),
+        [first, rest @ ..] => {
+            add_value(alloc, text, texts, *first)?;
+            add_more(alloc, text, texts, rest)?;
+            Ok(())
+        }
+    }
+}
+
+// Puts each value at the end, behind a blank.
+fn add_more(
+    alloc: Global,
+    text: &mut Vec<u8>,
+    texts: &Texts,
+    values: &[Value],
+) -> Result<(), AllocError>
+    ensures { OnOk result (text.new.items
+        ≡ text.old.items ++ each_behind (codes " ") (map (value_text texts.now) values.now)) }
+{
+    for value in values {
+        text.extend_from_slice(b" ")?;
+        add_value(alloc, text, texts, *value)?;
+    }
+    Ok(())
+}

@@ -1,2 +1,0 @@
-//! Which bytes are an accepted set of scripts, and what other bytes are refused for, as definitions.
-#![tactic(auto)]

@@ -1,4 +1,0 @@
-pub mod Terminals
-pub mod Outcomes
-pub mod Parsed
-pub mod ScriptOutcomes

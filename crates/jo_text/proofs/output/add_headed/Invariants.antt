@@ -1,6 +1,0 @@
-use Rattle.std.proofs.Common.{◌≡◌, ◌++◌, true, drop}
-use Rattle.jo_model.specs.Rendered.{headed}
-use Rattle.jo_text.proofs.output.add_headed.Given as goal
-
-abbrev pub invariant-loop-byte : goal.invariant-loop-byte
-invariant-loop-byte l = l.text.items ++ headed l.head l.begins (drop l.byte-index l.lines) ≡ l.initial.text.items ++ headed l.head true l.lines
