@@ -1,14 +1,15 @@
 // From a stop of the parser to a refusal with its place.
 ghost use Rattle.std.specs.Prelude.{◌≡◌, ◌-◌, length};
 ghost use Rattle.jo_lex.specs.declared.refusal.ParseFault.TheVariants as fault;
-ghost use Rattle.jo_grammar.specs.TokenRefusals as spec;
+ghost use Rattle.jo_grammar.specs.TokenRefusals.{start_at};
+ghost use Rattle.jo_parser.specs.Answered.{fault_at};
 
 use crate::stop::Stop;
 use jo_grammar::Terminal;
 use jo_lex::{ParseFault, Refusal, RefusalKind, Token};
 
 fn start_at(tokens: &[Token], index: usize) -> u32
-    ensures { result ≡ spec.start_at tokens.now index }
+    ensures { result ≡ start_at tokens.now index }
 {
     match tokens.get(index) {
         Some(token) => token.start,
@@ -19,7 +20,7 @@ fn start_at(tokens: &[Token], index: usize) -> u32
 // The refusal at the token from which so many terminals are left. There are never more left than
 // there were.
 fn refused(kind: RefusalKind, tokens: &[Token], terminals: &[Terminal], left: usize) -> ParseFault
-    ensures { result ≡ fault.Refused record { kind = kind; place = spec.start_at tokens.now (length terminals.now - left) } }
+    ensures { result ≡ fault.Refused record { kind = kind; place = start_at tokens.now (length terminals.now - left) } }
 {
     let place = start_at(tokens, terminals.len().saturating_sub(left));
     ParseFault::Refused(Refusal { kind, place })
@@ -32,7 +33,7 @@ pub(crate) fn stopped(
     terminals: &[Terminal],
     left: usize,
 ) -> ParseFault
-    ensures { result ≡ spec.fault_at tokens.now terminals.now left stop }
+    ensures { result ≡ fault_at tokens.now terminals.now left stop }
 {
     match stop {
         Stop::Memory => ParseFault::Memory,
