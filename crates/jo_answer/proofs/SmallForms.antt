@@ -8,16 +8,16 @@ use Rattle.jo_value.specs.Texts.{Table}
 use Rattle.jo_lex.specs.declared.token.Token.{Token}
 use Rattle.jo_lex.specs.declared.punct.Punct.TheVariants as p
 use Rattle.jo_tree.specs.declared.operator.AssignOperator.TheVariants as assign_op
-use Rattle.jo_tree.specs.Trees.{Tree, number, assign, Statement, print, run, Items, no_items, declare, perform}
+use Rattle.jo_tree.specs.Trees.{Tree, number, assign, Statement, print, evaluate, Items, no_items, declare, perform}
 use Rattle.jo_grammar.specs.Expressions.{Mark, mark}
 use Rattle.jo_grammar.specs.Statements.{arguments, statement, items, IsScript}
 use Rattle.jo_grammar.specs.Refusals.{terms, IsAccepted}
 use Rattle.jo_grammar.specs.Terminals.{terminals_of}
 use Rattle.jo_grammar.specs.Sound.{IsInRange, Suits, SuitsStatement, SuitItems, IsSound}
-use Rattle.jo_grammar.specs.Cuts.{pieces_of}
+use Rattle.jo_grammar.specs.Cuts.{sections_of}
 use Rattle.jo_grammar.specs.Sets.{AreScripts, IsAcceptedSet}
 use Rattle.jo_grammar.proofs.SpelledLengths.{arguments_few}
-use Rattle.jo_grammar.proofs.PiecesInText.{pieces-short}
+use Rattle.jo_grammar.proofs.SectionsInInput.{sections-short}
 use Rattle.jo_grammar.proofs.TokensInTable.{IsGoodList}
 use Rattle.jo_grammar.proofs.ListsInTable.{AreGoodLists, lists-good}
 use Rattle.jo_grammar.proofs.TerminalsInTable.{terminals-few}
@@ -93,8 +93,8 @@ print_few d es =
 
 step_small : (texts : Table) (d most : ℕ) (s : Statement) (of : Step) (steps : List Step) → SuitsStatement texts s → step_of texts s ≡ Some of →
     AreBounded most steps → AreBounded (length (statement d s) + most) (of ∷ steps)
-step_small texts d most (run (assign assign_op.Set target value)) of steps suits h k =
-    put_small texts most (length (statement d (run (assign assign_op.Set target value)))) (shared_name texts target) value of steps suits.1 h k
+step_small texts d most (evaluate (assign assign_op.Set target value)) of steps suits h k =
+    put_small texts most (length (statement d (evaluate (assign assign_op.Set target value)))) (shared_name texts target) value of steps suits.1 h k
 step_small texts d most (print es) of steps suits h k =
     let few : (names : List NameId) → shared_names texts es ≡ Some names → length names ≤ length (statement d (print es)) =
     λ names e. omega (arith, names_many texts es names e, print_few d es) in
@@ -138,7 +138,7 @@ first_few texts most (tokens ∷ lists) script h k = marks_few texts most tokens
 set_few : (bytes : List ℕ) (texts : Table) (script : Items) → IsAcceptedSet bytes (script ∷ []) texts → length (items 0 script) ≤ length bytes
 set_few bytes texts script set =
     let l = set.parsed.lexed in
-    let good = lists-good (length bytes) [] (pieces_of bytes) set.parsed.lists texts (pieces-short bytes l.cut.utf8) l.read in
+    let good = lists-good (length bytes) [] (sections_of bytes) set.parsed.lists texts (sections-short bytes l.cut.utf8) l.read in
     first_few texts (length bytes) set.parsed.lists script good.0 set.parsed.spelled
 
 -- ---- sets

@@ -10,7 +10,7 @@ use Rattle.jo_lex.specs.declared.refusal.RefusalKind.TheVariants.{NestedTooDeep}
 use Rattle.jo_tree.specs.declared.keyword.Keyword.TheVariants as keyword
 use Rattle.jo_tree.specs.declared.operator.AssignOperator.TheVariants.{Set}
 use Rattle.jo_tree.specs.declared.word.Name.TheVariants.{Ident, Keyword}
-use Rattle.jo_tree.specs.Trees.{Tree, number, constant, group, member, assign, no_accesses, field, Statement, empty, print, run, Items, no_items, perform}
+use Rattle.jo_tree.specs.Trees.{Tree, number, constant, group, member, assign, no_accesses, field, Statement, empty, print, evaluate, Items, no_items, perform}
 use Rattle.jo_model.specs.declared.call.Call.TheVariants.{Put}
 use Rattle.jo_model.specs.declared.call.Outcome.TheVariants as outcome
 use Rattle.jo_model.specs.declared.call.Reply.TheVariants.{Done}
@@ -36,7 +36,7 @@ named n = record { 0 = n }
 
 -- `shared.name = i;`
 abbrev put : ℕ → ℕ → Statement
-put n i = run (assign Set (read n) (number (pos i)))
+put n i = evaluate (assign Set (read n) (number (pos i)))
 
 abbrev alone : Statement → Items
 alone statement = perform statement no_items
@@ -53,7 +53,7 @@ the_first_script_has_three_steps = refl
 pub a_reserved_word_may_be_a_name : form_of texts (alone (print (member (constant keyword.Shared) (field (Keyword keyword.In) no_accesses) ∷ []))) ≡ Some (step.Print (named 5 ∷ []) ∷ [])
 a_reserved_word_may_be_a_name = refl
 
-pub brackets_are_no_form : form_of texts (alone (run (assign Set (read 1) (group (number (pos 1)))))) ≡ None
+pub brackets_are_no_form : form_of texts (alone (evaluate (assign Set (read 1) (group (number (pos 1)))))) ≡ None
 brackets_are_no_form = refl
 
 pub a_print_of_nothing_is_no_form : form_of texts (alone (print [])) ≡ None

@@ -43,7 +43,7 @@ pub record IsRun (bytes text : List ℕ) : Type 0 where
   pub output_is : IsOutputOf form.script texts text
 
 -- the bytes are refused, and the text says for what and where
-pub record IsRefused (bytes text : List ℕ) : Type 0 where
+pub record IsRefusalLine (bytes text : List ℕ) : Type 0 where
   pub refusal : Refusal
   pub refused : IsRefusal bytes refusal
   pub line : text ≡ refusal_line refusal
@@ -59,7 +59,7 @@ pub record IsNotBuilt (bytes text : List ℕ) : Type 0 where
 -- what is said of these bytes, and the text that is due for them
 abbrev pub IsDue : Verdict → List ℕ → List ℕ → Type 0
 IsDue verdict.Done bytes text = IsRun bytes text
-IsDue verdict.Refused bytes text = IsRefused bytes text ⊎ IsNotBuilt bytes text
+IsDue verdict.Refused bytes text = IsRefusalLine bytes text ⊎ IsNotBuilt bytes text
 IsDue verdict.TooLarge bytes text = (MOST_INPUT < length bytes) × (text ≡ size_line)
 
 -- an input that is refused, or an accepted set that the program does not run so far

@@ -23,7 +23,7 @@ use Rattle.jo_tree.specs.declared.script.Item.TheBlock.{None', Some', more_of-If
 use Rattle.jo_tree.specs.declared.script.Statement.{Statement}
 use Rattle.jo_tree.specs.declared.script.Statement.TheVariants as s
 use Rattle.jo_tree.specs.ScriptViews.{statement_tree}
-use Rattle.jo_tree.specs.Trees.{run}
+use Rattle.jo_tree.specs.Trees.{evaluate}
 use Rattle.jo_tree.specs.Views.{expr_tree, cond_tree, chain_tree, unary_tree, postfix_tree, primary_tree, accesses_list}
 use Rattle.jo_tree.proofs.Shapes.{shapes}
 use Rattle.jo_tree.proofs.ScriptShapes.{script_shapes}
@@ -74,7 +74,7 @@ primary-no-name texts (p.Object' q (more_of-Object (Object' n ps comma) end_of-O
 primary-no-name texts (p.Group' q (more_of-Expr v end_of-Expr)) = refl
 primary-no-name texts (p.Cas' m (more_of-Cas q (more_of-Expr o end_of-Expr) r (more_of-Expr k end_of-Expr) s (more_of-Expr a end_of-Expr) t (more_of-Expr b end_of-Expr) end_of-Cas)) = refl
 
-primary-no-step : (texts : Table) (x : Primary) → step_of texts (run (primary_tree x)) ≡ None
+primary-no-step : (texts : Table) (x : Primary) → step_of texts (evaluate (primary_tree x)) ≡ None
 unfolding expr_tree
 primary-no-step texts (p.Number n) = refl
 primary-no-step texts (p.Text s) = refl
@@ -113,24 +113,24 @@ unary-no-operand (u.Postfix f) not = absurd (not f refl)
 
 -- ---- what is no step
 
-postfix-no-step : (texts : Table) (x : Postfix) → step_of texts (run (postfix_tree x)) ≡ None
+postfix-no-step : (texts : Table) (x : Postfix) → step_of texts (evaluate (postfix_tree x)) ≡ None
 unfolding expr_tree
 postfix-no-step texts (x.Primary b) = primary-no-step texts b
 postfix-no-step texts (x.Member' q (more_of-Member b n xs end_of-Member)) = refl
 
-unary-no-step : (texts : Table) (x : Unary) → step_of texts (run (unary_tree x)) ≡ None
+unary-no-step : (texts : Table) (x : Unary) → step_of texts (evaluate (unary_tree x)) ≡ None
 unfolding expr_tree
 unary-no-step texts (u.Applied' o q (more_of-Unary v end_of-Unary)) = refl
 unary-no-step texts (u.Delete' q (more_of-Member b n xs end_of-Member)) = refl
 unary-no-step texts (u.Postfix f) = postfix-no-step texts f
 
-chain-no-step : (texts : Table) (x : Chain) → step_of texts (run (chain_tree x)) ≡ None
+chain-no-step : (texts : Table) (x : Chain) → step_of texts (evaluate (chain_tree x)) ≡ None
 unfolding expr_tree
 chain-no-step texts (h.Unary v) = unary-no-step texts v
 chain-no-step texts (h.Binary' q (more_of-Binary (Binary' l f n ls) end_of-Binary)) = refl
 
 -- an expression that assigns nothing is no step
-pub cond-no-step : (texts : Table) (x : Cond) → step_of texts (run (cond_tree x)) ≡ None
+pub cond-no-step : (texts : Table) (x : Cond) → step_of texts (evaluate (cond_tree x)) ≡ None
 unfolding expr_tree
 cond-no-step texts (c.Chain v) = chain-no-step texts v
 cond-no-step texts (c.Choice' o (more_of-Choice v q (more_of-Expr a end_of-Expr) r (more_of-Expr b end_of-Expr) end_of-Choice)) = refl

@@ -8,9 +8,9 @@ use Rattle.jo_value.specs.Texts.{Table}
 use Rattle.jo_tree.specs.declared.keyword.Keyword.TheVariants as keyword
 use Rattle.jo_tree.specs.declared.operator.AssignOperator.TheVariants as assign_op
 use Rattle.jo_tree.specs.declared.word.Name.{Name as Word}
-use Rattle.jo_tree.specs.Trees.{Tree, number, constant, member, assign, no_accesses, field, Statement, print, run, Items, no_items, declare, perform}
+use Rattle.jo_tree.specs.Trees.{Tree, number, constant, member, assign, no_accesses, field, Statement, print, evaluate, Items, no_items, declare, perform}
 use Rattle.jo_model.specs.Printed.{text_in}
-use Rattle.jo_meaning.specs.Keys.{is_digit, name_number}
+use Rattle.jo_meaning.specs.Keys.{is_digit, name_id}
 use Rattle.jo_form.specs.declared.form.Step.{Step}
 use Rattle.jo_form.specs.declared.form.Step.TheVariants as step
 
@@ -52,7 +52,7 @@ module _ (texts : Table) where
 
   -- a word that names a property, by its number in the table
   abbrev pub name_of : Word → Option NameId
-  name_of name = name_with (name_number texts name)
+  name_of name = name_with (name_id texts name)
 
   -- the name of a property of the shared object, written with a dot and without brackets
   abbrev pub shared_name : Tree → Option NameId
@@ -68,7 +68,7 @@ module _ (texts : Table) where
 
   -- an assignment of a number to such a property, or a print of such properties
   abbrev pub step_of : Statement → Option Step
-  step_of (run (assign assign_op.Set target value)) = put_of (shared_name target) (number_in value)
+  step_of (evaluate (assign assign_op.Set target value)) = put_of (shared_name target) (number_in value)
   step_of (print es) = print_of (shared_names es)
   step_of _ = None
 

@@ -89,7 +89,7 @@ fn step_of(alloc: Global, texts: &Texts, statement: &Statement) -> Result<Option
     }
 }
 
-/// The step that an item is, where it is one. It goes before the steps of the items behind it.
+/// The step that an item is, where it is one. It goes before the steps of the items after it.
 #[tactic(auto, using(crate::proofs::Trees::trees))]
 pub(crate) fn step_of_item(
     alloc: Global,

@@ -44,7 +44,7 @@ pub(crate) fn name_of(texts: &Texts, word: Name) -> Option<NameId>
 {
     match word {
         Name::Ident(ident) => name_with(texts, ident.text),
-        Name::Keyword(keyword) => name_with(texts, texts.number_of(keyword.text())?),
+        Name::Keyword(keyword) => name_with(texts, texts.id_of(keyword.text())?),
         Name::Reserved(id) => name_with(texts, id),
     }
 }

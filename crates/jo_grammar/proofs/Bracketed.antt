@@ -123,7 +123,7 @@ a_close found comma = bind (one (t.Punct p.CloseBrace) 0) (λ _. nothing (object
 abbrev next_property : ℕ → Props → Language Tree
 next_property d found = bind (a_property d) (λ x. an_end d (with_prop found x.0 x.1))
 
--- behind a comma: the brace, or a property and the rest
+-- after a comma: the brace, or a property and the rest
 abbrev after_comma : ℕ → Props → Language Tree
 after_comma d found v m = a_close found true v m ⊎ next_property d found v m
 

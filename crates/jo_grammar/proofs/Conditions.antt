@@ -17,7 +17,7 @@ AboveCondition ins v c = (rank ins c < 2) × (rank ins c ≡ 1 → IsTarget v)
 
 -- ---- the languages
 
--- the rest of a choice, behind its `?`
+-- the rest of a choice, after its `?`
 abbrev a_choice : Bool → ℕ → Tree → Language Tree
 a_choice ins d a = closed_by ins d (t.Punct p.Colon) (λ b. mapped (choose a b) (at ins 1 d))
 

@@ -82,7 +82,7 @@ binding-from ins d b m k = (b.0, plain (t.Ident b.0) ∷ [], initial d b.1, refl
 pub some_binding : (ins : Bool) (d : ℕ) → (b : Binding) × (m : List Mark) × a_binding ins d b m
 some_binding ins d = ((some_ident, None), plain (t.Ident some_ident) ∷ [], (tt, refl))
 
--- ---- bindings behind `let`
+-- ---- bindings after `let`
 
 abbrev pub a_let : Bool → ℕ → Language (List Binding)
 a_let ins d bs m = FitBindings ins true bs × (m ≡ bindings d bs ++ mark p.Semicolon ∷ [])

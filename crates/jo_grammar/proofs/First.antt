@@ -6,7 +6,7 @@ use Rattle.jo_tree.specs.declared.keyword.Keyword.TheVariants as kw
 use Rattle.jo_tree.specs.declared.operator.UnaryOperator.TheVariants as u
 use Rattle.jo_grammar.specs.declared.terminal.Terminal.{Terminal}
 use Rattle.jo_grammar.specs.declared.terminal.Terminal.TheVariants as t
-use Rattle.jo_tree.specs.Trees.{Tree, number, literal, constant, variable, group, object, cas, member, unary, delete, chain, choose, assign, Statement, empty, block, when, either, while, for, break, continue, print, print_names, run}
+use Rattle.jo_tree.specs.Trees.{Tree, number, literal, constant, variable, group, object, cas, member, unary, delete, chain, choose, assign, Statement, empty, block, when, either, while, for, break, continue, print, print_names, evaluate}
 use Rattle.jo_grammar.specs.Operators.{is_constant}
 use Rattle.jo_grammar.specs.Expressions.{Mark, mark, Fits, spelling, first}
 use Rattle.jo_grammar.specs.Statements.{FitStatement, statement}
@@ -99,7 +99,7 @@ statement-begins loops d break r f = refl
 statement-begins loops d continue r f = refl
 statement-begins loops d (print es) r f = refl
 statement-begins loops d (print_names e) r f = refl
-statement-begins loops d (run e) r f = ap begins_statement (run-is d e r) ∙ tree-is-statement (first e) (first-begins true 1 e f.0)
+statement-begins loops d (evaluate e) r f = ap begins_statement (run-is d e r) ∙ tree-is-statement (first e) (first-begins true 1 e f.0)
 
 -- the statements, where d constructs are open; the flag says whether they stand inside the body of a loop
 abbrev pub statement_language : Bool → ℕ → Language Statement

@@ -1,7 +1,7 @@
 -- Marks that are good for a table: their numbers and texts are, and there are not too many; so are the parts of such a list.
 use Rattle.std.proofs.Common.{◌≤◌, ◌<◌, List, [], ◌∷◌, ◌++◌, length, arith, length-append}
 use Rattle.jo_value.specs.declared.limits.TheConstants.{MOST_INPUT}
-use Rattle.jo_value.specs.Texts.{Table, number_in}
+use Rattle.jo_value.specs.Texts.{Table, id_in}
 use Rattle.jo_tree.specs.Words.{keyword_text}
 use Rattle.jo_tree.specs.declared.word.Name.{Name}
 use Rattle.jo_tree.specs.declared.word.Name.TheVariants as word
@@ -18,7 +18,7 @@ module _ (texts : Table) where
   -- the number of the terminal is in range, and its text is in the table
   abbrev pub IsGood : Terminal → Type 0
   IsGood (t.Ident x) = IsNumbered texts x.text
-  IsGood (t.Keyword w) = number_in texts (keyword_text w) < length texts
+  IsGood (t.Keyword w) = id_in texts (keyword_text w) < length texts
   IsGood (t.Reserved id) = IsNumbered texts id
   IsGood (t.Number i) = IsInRange i
   IsGood (t.Text s) = IsNumbered texts s.text
@@ -65,5 +65,5 @@ module _ (texts : Table) where
   pub at_head : (m : Mark) (ms : List Mark) → AreFine (m ∷ ms) → IsGood m.0
   at_head m ms h = h.good.0
 
-  pub behind : (m : Mark) (ms : List Mark) → AreFine (m ∷ ms) → AreFine ms
-  behind m ms h = record { good = h.good.1; few = omega (arith, h.few) }
+  pub after : (m : Mark) (ms : List Mark) → AreFine (m ∷ ms) → AreFine ms
+  after m ms h = record { good = h.good.1; few = omega (arith, h.few) }

@@ -63,11 +63,11 @@ pub nil-right : (x : List Mark) → x ++ [] ≡ x
 nil-right [] = refl
 nil-right (m ∷ x) = ap (λ v. m ∷ v) (nil-right x)
 
--- what stands behind some tokens is no longer
+-- what stands after some tokens is no longer
 pub not-longer : (ts r : List Terminal) (x : List Mark) → ts ≡ terms x ++ r → length r ≤ length ts
 not-longer ts r x f = let a : length ts ≡ length (terms x) + length r = ap length f ∙ length-append (terms x) r in omega arith
 
--- and behind a token it is shorter
+-- and after a token it is shorter
 pub bind-shorter : {B : Type 0} (c : Terminal) (o : ℕ) (K : Language B) (b : B) (ts r : List Terminal) (y : List Mark) → bind (one c o) (λ _. K) b y → ts ≡ terms y ++ r → length r < length ts
 bind-shorter c o K b ts r y k f =
     let e : y ≡ (c, o) ∷ k.2 = k.5 ∙ ap (λ v. v ++ k.2) k.3 in

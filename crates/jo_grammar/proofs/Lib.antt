@@ -37,7 +37,7 @@ pub mod OneAnswer
 pub mod GoodMarks
 pub mod SpelledLengths
 pub mod SpelledTrees
-pub mod PiecesInText
+pub mod SectionsInInput
 pub mod TokensInTable
 pub mod ListsInTable
 pub mod TerminalsInTable

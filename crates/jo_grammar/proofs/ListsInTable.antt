@@ -1,13 +1,13 @@
--- The tokens of all scripts of a set: they are good for the last table, and there are as many lists as pieces.
+-- The tokens of all scripts of a set: they are good for the last table, and there are as many lists as sections.
 use Rattle.std.proofs.Common.{◌≡◌, ℕ, suc, ◌≤◌, List, [], ◌∷◌, length, refl, sym, ap, ◌∙◌, arith, append-nil}
 use Rattle.std.specs.Str.{chars}
 use Rattle.jo_value.specs.Texts.{Table}
 use Rattle.jo_lex.specs.declared.token.Token.{Token}
 use Rattle.jo_lex.specs.Characters.{size}
 use Rattle.jo_lex.proofs.Reading.{size-chars}
-use Rattle.jo_grammar.specs.Cuts.{Piece}
+use Rattle.jo_grammar.specs.Cuts.{Section}
 use Rattle.jo_grammar.specs.Sets.{AreRead}
-use Rattle.jo_grammar.proofs.PiecesInText.{AreShort}
+use Rattle.jo_grammar.proofs.SectionsInInput.{AreShort}
 use Rattle.jo_grammar.proofs.TokensInTable.{Extends, extends-further, extends-length, tokens-wider, IsGoodList, read-good}
 
 -- each of the lists is good for the table, and has at most so many tokens before its end
@@ -24,20 +24,20 @@ list-wider texts after m n tokens grown le h = record {
   few = omega (arith, h.few, le);
 }
 
-pub lists-good : (most : ℕ) (texts : Table) (pieces : List Piece) (lists : List (List Token)) (end : Table) → AreShort most pieces → AreRead texts pieces lists end → AreGoodLists end most lists × Extends texts end
+pub lists-good : (most : ℕ) (texts : Table) (sections : List Section) (lists : List (List Token)) (end : Table) → AreShort most sections → AreRead texts sections lists end → AreGoodLists end most lists × Extends texts end
 lists-good most texts [] [] end s h = (tt, ([], h ∙ sym (append-nil texts)))
 lists-good most texts [] (tokens ∷ lists) end s h = absurd h
-lists-good most texts (piece ∷ pieces) [] end s h = absurd h
-lists-good most texts (piece ∷ pieces) (tokens ∷ lists) end s h =
+lists-good most texts (section ∷ sections) [] end s h = absurd h
+lists-good most texts (section ∷ sections) (tokens ∷ lists) end s h =
     let after = h.0 in
-    let one = read-good piece.start texts (chars piece.text) tokens after h.1 in
-    let others = lists-good most after pieces lists end s.2 h.2 in
-    let short : size (chars piece.text) ≤ most = omega (arith, size-chars piece.text s.0, s.1) in
-    ((list-wider after end (size (chars piece.text)) most tokens others.1 short one.0, others.0), extends-further texts after end one.1 others.1)
+    let one = read-good section.start texts (chars section.text) tokens after h.1 in
+    let others = lists-good most after sections lists end s.2 h.2 in
+    let short : size (chars section.text) ≤ most = omega (arith, size-chars section.text s.0, s.1) in
+    ((list-wider after end (size (chars section.text)) most tokens others.1 short one.0, others.0), extends-further texts after end one.1 others.1)
 
--- as many as the pieces
-pub lists-many : (texts : Table) (pieces : List Piece) (lists : List (List Token)) (end : Table) → AreRead texts pieces lists end → length lists ≡ length pieces
+-- as many as the sections
+pub lists-many : (texts : Table) (sections : List Section) (lists : List (List Token)) (end : Table) → AreRead texts sections lists end → length lists ≡ length sections
 lists-many texts [] [] end h = refl
 lists-many texts [] (tokens ∷ lists) end h = absurd h
-lists-many texts (piece ∷ pieces) [] end h = absurd h
-lists-many texts (piece ∷ pieces) (tokens ∷ lists) end h = ap suc (lists-many h.0 pieces lists end h.2)
+lists-many texts (section ∷ sections) [] end h = absurd h
+lists-many texts (section ∷ sections) (tokens ∷ lists) end h = ap suc (lists-many h.0 sections lists end h.2)

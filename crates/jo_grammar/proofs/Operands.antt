@@ -144,7 +144,7 @@ accesses_both-index no_accesses ys i = refl
 accesses_both-index (field y xs) ys i = ap (λ v. field y v) (accesses_both-index xs ys i)
 accesses_both-index (index e xs) ys i = ap (λ v. index e v) (accesses_both-index xs ys i)
 
--- the accesses behind those that were read
+-- the accesses after those that were read
 abbrev some_more : ℕ → Accesses → Language Accesses
 some_more d found xs m = (more : Accesses) × FitAccesses false more × (xs ≡ accesses_both found more) × (m ≡ accesses d more)
 

@@ -1,9 +1,9 @@
 -- The faults of a script come in order of place, where the places of its identifiers rise.
 use Rattle.std.specs.Prelude.{ℕ, ◌<◌, Bool, true, false, if◌then◌else◌, List, [], ◌∷◌, ◌++◌}
 use Rattle.jo_tree.specs.declared.word.Ident.{Ident}
-use Rattle.jo_tree.specs.Trees.{Binding, Head, declares, begins, Statement, empty, block, when, either, while, for, break, continue, print, print_names, run, Items, no_items, declare, perform}
+use Rattle.jo_tree.specs.Trees.{Binding, Head, declares, begins, Statement, empty, block, when, either, while, for, break, continue, print, print_names, evaluate, Items, no_items, declare, perform}
 use Rattle.jo_tree.specs.Blocks.{names_of, declared_in, declared_by}
-use Rattle.jo_grammar.specs.Declarations.{ScopeFault, undeclared, twice, Found, uses_of, uses_of_optional, uses_of_all, Scope, at_beginning, at_end, behind, behind_all, is_among, is_bound, faults_of_uses, faults_of_bindings, faults_of_head, faults_of, faults_of_items, faults}
+use Rattle.jo_grammar.specs.Declarations.{ScopeFault, undeclared, twice, Found, uses_of, uses_of_optional, uses_of_all, Scope, at_beginning, at_end, scope_after, scope_after_all, is_among, is_bound, faults_of_uses, faults_of_bindings, faults_of_head, faults_of, faults_of_items, faults}
 
 -- ---- the identifiers of a script, in uses and declarations, in the order in which they are written
 
@@ -27,7 +27,7 @@ abbrev mutual
   identifiers_of continue = []
   identifiers_of (print es) = uses_of_all es
   identifiers_of (print_names e) = uses_of e
-  identifiers_of (run e) = uses_of e
+  identifiers_of (evaluate e) = uses_of e
 
   pub identifiers_of_items : Items → List Ident
   identifiers_of_items no_items = []
@@ -92,7 +92,7 @@ of_name false x h = without h
 of_bindings : (scope : Scope) (outer : List Scope) (bindings : List Binding) → Stand (faults_of_bindings scope outer bindings) (identifiers_of_bindings bindings)
 of_bindings scope outer [] = all_stand
 of_bindings scope outer (b ∷ bindings) =
-    of_name (is_among scope.ended b.0.text.0) b.0 (joined (of_uses (scope ∷ outer) (uses_of_optional b.1)) (of_bindings (behind scope b.0) outer bindings))
+    of_name (is_among scope.ended b.0.text.0) b.0 (joined (of_uses (scope ∷ outer) (uses_of_optional b.1)) (of_bindings (scope_after scope b.0) outer bindings))
 
 of_head : (outer : List Scope) (head : Head) → Stand (faults_of_head outer head) (identifiers_of_head head)
 of_head outer (declares bindings) = of_bindings (at_beginning (names_of bindings)) outer bindings
@@ -113,11 +113,11 @@ mutual
   of_statement scopes continue = all_stand
   of_statement scopes (print es) = of_uses scopes (uses_of_all es)
   of_statement scopes (print_names e) = of_uses scopes (uses_of e)
-  of_statement scopes (run e) = of_uses scopes (uses_of e)
+  of_statement scopes (evaluate e) = of_uses scopes (uses_of e)
 
   of_items : (scope : Scope) (outer : List Scope) (items : Items) → Stand (faults_of_items scope outer items) (identifiers_of_items items)
   of_items scope outer no_items = all_stand
-  of_items scope outer (declare bindings items) = joined (of_bindings scope outer bindings) (of_items (behind_all scope bindings) outer items)
+  of_items scope outer (declare bindings items) = joined (of_bindings scope outer bindings) (of_items (scope_after_all scope bindings) outer items)
   of_items scope outer (perform statement items) = joined (of_statement (scope ∷ outer) statement) (of_items scope outer items)
 
 -- the faults of a script come in order of place

@@ -414,7 +414,7 @@ outcome-sees c L L₁ L₂ S G limit ts x y h to₁ to₂ split there apart =
     (λ e. outcome-choose L₂ L S S G G limit ts to₂ (λ _ _ _ _ g. g)
     (λ a m r l s f. (elim (split a m r l s) [ inl k ↦ absurd (sees-false c (peek (terms m ++ r)) ts e f k.0) | inr k ↦ k.1 ], s)) y (apart (λ f. sees-false c (peek ts) ts e refl f)))
 
--- what is read after a token stands behind that token
+-- what is read after a token stands after that token
 pub first-of : {B : Type 0} (c : Terminal) (o : ℕ) (K : Language B) (b : B) (y : List Mark) (r : List Terminal) → bind (one c o) (λ _. K) b y → peek (terms y ++ r) ≡ c
 first-of c o K b y r k = ap (λ v. peek (terms v ++ r)) (k.5 ∙ ap (λ v. v ++ k.2) k.3)
 

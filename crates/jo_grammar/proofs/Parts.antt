@@ -95,7 +95,7 @@ head-split d (begins v) m r k = inr (λ g. optional-no-let false d v r k.0 (ap (
 pub some_head : (d : ℕ) → (h : Head) × (m : List Mark) × a_head d h m
 some_head d = (begins None, mark p.Semicolon ∷ [], (tt, refl))
 
--- ---- arguments behind their bracket
+-- ---- arguments after their bracket
 
 abbrev pub all_arguments : ℕ → Language (List Tree)
 all_arguments d es m = FitAll es × (m ≡ arguments d es ++ mark p.CloseParen ∷ [])

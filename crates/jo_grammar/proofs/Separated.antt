@@ -14,7 +14,7 @@ ends-list [] = refl
 ends-list (a ∷ x) = ap (λ v. a ∷ v) (ends-list x)
 
 module _ {A : Type 0} (L : Language A) (c : Terminal) where
-  -- each value behind a comma
+  -- each value after a comma
   abbrev pub elements : List A → List Mark → Type 0
   elements [] m = m ≡ []
   elements (a ∷ es) m = (x : List Mark) × (y : List Mark) × L a x × elements es y × (m ≡ mark p.Comma ∷ (x ++ y))

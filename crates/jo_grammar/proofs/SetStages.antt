@@ -9,7 +9,7 @@ use Rattle.jo_lex.specs.declared.refusal.RefusalKind.TheVariants as kind
 use Rattle.jo_tree.specs.Trees.{Items}
 use Rattle.jo_grammar.specs.Declarations.{Found, first_of_faults}
 use Rattle.jo_grammar.specs.NameRefusals.{refusal_for}
-use Rattle.jo_grammar.specs.Cuts.{Piece, pieces_of, end_of, IsOneTooMany}
+use Rattle.jo_grammar.specs.Cuts.{Section, sections_of, end_of, IsOneTooMany}
 use Rattle.jo_grammar.specs.Sets.{AreRead, IsFirstUnread, is_nothing, AreScripts, IsFirstMisspelled, faults_of_all}
 use Rattle.jo_grammar.proofs.Stages.{Once, Decides, Stage, stage-once}
 use Rattle.jo_grammar.proofs.ReadOnce.{same-refusal, read-once, read-or-unread, unread-once}
@@ -26,7 +26,7 @@ abbrev pub IsNoText : List ℕ → Refusal → Type 0
 IsNoText bytes r = (r.kind ≡ kind.NotUtf8) × (IsUtf8 bytes → ⊥) × (r.place ≡ utf8_valid_len bytes)
 
 abbrev pub AreTooMany : List ℕ → Refusal → Type 0
-AreTooMany bytes r = (r.kind ≡ kind.TooManyScripts) × IsOneTooMany (pieces_of bytes) r.place
+AreTooMany bytes r = (r.kind ≡ kind.TooManyScripts) × IsOneTooMany (sections_of bytes) r.place
 
 abbrev pub IsNothing : List (List Token) → Refusal → Type 0
 IsNothing lists r = (r.kind ≡ kind.NoScript) × (is_nothing lists ≡ true) × (r.place ≡ 0)
@@ -46,10 +46,10 @@ abbrev pub Something : List (List Token) → Table → Answer → Type 0
 Something lists texts = Stage (IsNothing lists) (λ (u : Unit {0}). is_nothing lists ≡ false) (λ u. Spelled lists texts)
 
 abbrev pub Lexed : List ℕ → Answer → Type 0
-Lexed bytes = Stage (IsFirstUnread [] (pieces_of bytes)) (λ (p : List (List Token) × Table). AreRead [] (pieces_of bytes) p.0 p.1) (λ p. Something p.0 p.1)
+Lexed bytes = Stage (IsFirstUnread [] (sections_of bytes)) (λ (p : List (List Token) × Table). AreRead [] (sections_of bytes) p.0 p.1) (λ p. Something p.0 p.1)
 
 abbrev pub Cut : List ℕ → Answer → Type 0
-Cut bytes = Stage (AreTooMany bytes) (λ (u : Unit {0}). length (pieces_of bytes) ≤ MOST_SCRIPTS) (λ u. Lexed bytes)
+Cut bytes = Stage (AreTooMany bytes) (λ (u : Unit {0}). length (sections_of bytes) ≤ MOST_SCRIPTS) (λ u. Lexed bytes)
 
 -- the answer that the bytes have
 abbrev pub Answers : List ℕ → Answer → Type 0
@@ -84,24 +84,24 @@ something-decides lists = record {
   apart = λ r x h k. true≢false (sym h.1 ∙ k);
 }
 
-lexed-decides : (bytes : List ℕ) → Decides (IsFirstUnread [] (pieces_of bytes)) (λ (p : List (List Token) × Table). AreRead [] (pieces_of bytes) p.0 p.1)
+lexed-decides : (bytes : List ℕ) → Decides (IsFirstUnread [] (sections_of bytes)) (λ (p : List (List Token) × Table). AreRead [] (sections_of bytes) p.0 p.1)
 lexed-decides bytes = record {
-  stops = unread-once [] (pieces_of bytes);
-  goes = λ x y h k. let e = read-once [] (pieces_of bytes) x.0 y.0 x.1 y.1 h k in ap (λ v. (v, x.1)) e.0 ∙ ap (λ v. (y.0, v)) e.1;
-  apart = λ r p h k. read-or-unread [] (pieces_of bytes) p.0 p.1 r k h;
+  stops = unread-once [] (sections_of bytes);
+  goes = λ x y h k. let e = read-once [] (sections_of bytes) x.0 y.0 x.1 y.1 h k in ap (λ v. (v, x.1)) e.0 ∙ ap (λ v. (y.0, v)) e.1;
+  apart = λ r p h k. read-or-unread [] (sections_of bytes) p.0 p.1 r k h;
 }
 
-too-many-once : (pieces : List Piece) (m n : ℕ) → IsOneTooMany pieces m → IsOneTooMany pieces n → m ≡ n
-too-many-once pieces m n h k = h.3 ∙ (ap end_of (some-once (slice_get pieces (MOST_SCRIPTS - 1)) h.1 k.1 h.2 k.2) ∙ sym k.3)
+too-many-once : (sections : List Section) (m n : ℕ) → IsOneTooMany sections m → IsOneTooMany sections n → m ≡ n
+too-many-once sections m n h k = h.3 ∙ (ap end_of (some-once (slice_get sections (MOST_SCRIPTS - 1)) h.1 k.1 h.2 k.2) ∙ sym k.3)
 
 few-or-many : (n : ℕ) → n ≤ MOST_SCRIPTS → MOST_SCRIPTS < n → ⊥
 few-or-many n h k = omega (arith, h, k)
 
-cut-decides : (bytes : List ℕ) → Decides (AreTooMany bytes) (λ (u : Unit {0}). length (pieces_of bytes) ≤ MOST_SCRIPTS)
+cut-decides : (bytes : List ℕ) → Decides (AreTooMany bytes) (λ (u : Unit {0}). length (sections_of bytes) ≤ MOST_SCRIPTS)
 cut-decides bytes = record {
-  stops = λ q r h k. same-refusal q r (h.0 ∙ sym k.0) (too-many-once (pieces_of bytes) q.place r.place h.1 k.1);
+  stops = λ q r h k. same-refusal q r (h.0 ∙ sym k.0) (too-many-once (sections_of bytes) q.place r.place h.1 k.1);
   goes = λ x y h k. refl;
-  apart = λ r x h k. few-or-many (length (pieces_of bytes)) k h.1.0;
+  apart = λ r x h k. few-or-many (length (sections_of bytes)) k h.1.0;
 }
 
 text-decides : (bytes : List ℕ) → Decides (IsNoText bytes) (λ (u : Unit {0}). IsUtf8 bytes)

@@ -10,13 +10,13 @@ use Rattle.jo_grammar.specs.Refusals.{terms, Within, IsAccepted}
 use Rattle.jo_grammar.specs.Terminals.{terminals_of}
 use Rattle.jo_grammar.specs.Declarations.{Found, faults}
 use Rattle.jo_grammar.specs.Sound.{IsSound}
-use Rattle.jo_grammar.specs.Cuts.{pieces_of}
+use Rattle.jo_grammar.specs.Cuts.{sections_of}
 use Rattle.jo_grammar.specs.Sets.{AreScripts, faults_of_all, IsAcceptedSet}
 use Rattle.jo_grammar.specs.Soundness.{AreSound}
 use Rattle.jo_grammar.proofs.GoodMarks.{AreGood, AreFine}
 use Rattle.jo_grammar.proofs.SpelledLengths.{items_few}
 use Rattle.jo_grammar.proofs.SpelledTrees.{suit_items}
-use Rattle.jo_grammar.proofs.PiecesInText.{pieces-short, pieces-some}
+use Rattle.jo_grammar.proofs.SectionsInInput.{sections-short, sections-some}
 use Rattle.jo_grammar.proofs.TokensInTable.{IsGoodList}
 use Rattle.jo_grammar.proofs.ListsInTable.{AreGoodLists, lists-good, lists-many}
 use Rattle.jo_grammar.proofs.TerminalsInTable.{terminals-good, terminals-few}
@@ -52,16 +52,16 @@ none-first : (xs ys : List Found) → xs ++ ys ≡ [] → xs ≡ []
 none-first [] ys e = refl
 none-first (x ∷ xs) ys e = cc
 
-none-behind : (xs ys : List Found) → xs ++ ys ≡ [] → ys ≡ []
-none-behind [] ys e = e
-none-behind (x ∷ xs) ys e = cc
+none-after : (xs ys : List Found) → xs ++ ys ≡ [] → ys ≡ []
+none-after [] ys e = e
+none-after (x ∷ xs) ys e = cc
 
 scripts-sound : (texts : Table) (most : ℕ) (lists : List (List Token)) (scripts : List Items) → most ≤ MOST_INPUT → AreGoodLists texts most lists → AreScripts texts lists scripts → faults_of_all scripts ≡ [] → AreSound texts scripts
 scripts-sound texts most [] [] le h k none = tt
 scripts-sound texts most [] (script ∷ scripts) le h k none = absurd k
 scripts-sound texts most (tokens ∷ lists) [] le h k none = absurd k
 scripts-sound texts most (tokens ∷ lists) (script ∷ scripts) le h k none =
-    (script-sound texts most tokens script le h.0 k.0 (none-first (faults script) (faults_of_all scripts) none), scripts-sound texts most lists scripts le h.1 k.1 (none-behind (faults script) (faults_of_all scripts) none))
+    (script-sound texts most tokens script le h.0 k.0 (none-first (faults script) (faults_of_all scripts) none), scripts-sound texts most lists scripts le h.1 k.1 (none-after (faults script) (faults_of_all scripts) none))
 
 scripts-many : (texts : Table) (lists : List (List Token)) (scripts : List Items) → AreScripts texts lists scripts → length scripts ≡ length lists
 scripts-many texts [] [] k = refl
@@ -75,12 +75,12 @@ scripts-many texts (tokens ∷ lists) (script ∷ scripts) k = ap suc (scripts-m
 pub sets_are_sound : (bytes : List ℕ) (scripts : List Items) (texts : Table) → length bytes ≤ MOST_INPUT → IsAcceptedSet bytes scripts texts → AreSound texts scripts
 sets_are_sound bytes scripts texts le h =
     let l = h.parsed.lexed in
-    let good = lists-good (length bytes) [] (pieces_of bytes) h.parsed.lists texts (pieces-short bytes l.cut.utf8) l.read in
+    let good = lists-good (length bytes) [] (sections_of bytes) h.parsed.lists texts (sections-short bytes l.cut.utf8) l.read in
     scripts-sound texts (length bytes) h.parsed.lists scripts le good.0 h.parsed.spelled h.named
 
 -- an accepted set has a script, and at most eight
 pub sets_are_few : (bytes : List ℕ) (scripts : List Items) (texts : Table) → IsAcceptedSet bytes scripts texts → (1 ≤ length scripts) × (length scripts ≤ MOST_SCRIPTS)
 sets_are_few bytes scripts texts h =
     let l = h.parsed.lexed in
-    let many : length scripts ≡ length (pieces_of bytes) = scripts-many texts h.parsed.lists scripts h.parsed.spelled ∙ lists-many [] (pieces_of bytes) h.parsed.lists texts l.read in
-    (omega (arith, many, pieces-some bytes), omega (arith, many, l.cut.few))
+    let many : length scripts ≡ length (sections_of bytes) = scripts-many texts h.parsed.lists scripts h.parsed.spelled ∙ lists-many [] (sections_of bytes) h.parsed.lists texts l.read in
+    (omega (arith, many, sections-some bytes), omega (arith, many, l.cut.few))

@@ -1,7 +1,7 @@
 -- A list in a tree has at most as many entries as its spelling has marks.
 use Rattle.std.proofs.Common.{◌≤◌, ◌+◌, ℕ, List, [], ◌∷◌, ◌++◌, length, arith, length-append}
 use Rattle.jo_lex.specs.declared.punct.Punct.TheVariants as p
-use Rattle.jo_tree.specs.Trees.{Tree, number, literal, constant, variable, group, object, cas, member, unary, delete, chain, choose, assign, Statement, empty, block, when, either, while, for, break, continue, print, print_names, run, Props, no_props, prop, Accesses, no_accesses, field, index, Links, no_links, link, Binding, Items, no_items, declare, perform}
+use Rattle.jo_tree.specs.Trees.{Tree, number, literal, constant, variable, group, object, cas, member, unary, delete, chain, choose, assign, Statement, empty, block, when, either, while, for, break, continue, print, print_names, evaluate, Props, no_props, prop, Accesses, no_accesses, field, index, Links, no_links, link, Binding, Items, no_items, declare, perform}
 use Rattle.jo_grammar.specs.declared.terminal.Terminal.TheVariants as t
 use Rattle.jo_grammar.specs.Operators.{assign_token}
 use Rattle.jo_grammar.specs.Expressions.{mark, spelling, props, more_props, accesses, links}
@@ -69,7 +69,7 @@ stated d break = omega arith
 stated d continue = omega arith
 stated d (print es) = omega arith
 stated d (print_names e) = omega arith
-stated d (run e) = omega (arith, spelled d e, length-append (spelling d e) (mark p.Semicolon ∷ []))
+stated d (evaluate e) = omega (arith, spelled d e, length-append (spelling d e) (mark p.Semicolon ∷ []))
 
 pub items_few : (d : ℕ) (is : Items) → count_of_items is ≤ length (items d is)
 items_few d no_items = omega arith

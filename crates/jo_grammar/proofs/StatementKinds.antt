@@ -5,7 +5,7 @@ use Rattle.jo_tree.specs.declared.keyword.Keyword.{Keyword}
 use Rattle.jo_tree.specs.declared.keyword.Keyword.TheVariants as kw
 use Rattle.jo_grammar.specs.declared.terminal.Terminal.{Terminal}
 use Rattle.jo_grammar.specs.declared.terminal.Terminal.TheVariants as t
-use Rattle.jo_tree.specs.Trees.{Tree, Head, Statement, empty, block, when, either, while, for, break, continue, print, print_names, run, no_items}
+use Rattle.jo_tree.specs.Trees.{Tree, Head, Statement, empty, block, when, either, while, for, break, continue, print, print_names, evaluate, no_items}
 use Rattle.jo_grammar.specs.Expressions.{Mark, mark, word, Fits, spelling, first}
 use Rattle.jo_grammar.specs.Statements.{FitStatement, IsClosed, optional, head, arguments, bracketed, statement, items}
 use Rattle.jo_grammar.specs.Refusals.{Language, terms}
@@ -24,7 +24,7 @@ an_empty v m = (v ≡ empty) × (m ≡ mark p.Semicolon ∷ [])
 abbrev pub a_block : Bool → ℕ → Language Statement
 a_block loops d = bind (one (t.Punct p.OpenBrace) (d + 1)) (λ _. mapped block (items_end loops (d + 1) brace no_items))
 
--- the semicolon behind a statement
+-- the semicolon after a statement
 abbrev pub semicolon : Statement → Language Statement
 semicolon s = bind (one (t.Punct p.Semicolon) 0) (λ _. nothing s)
 
@@ -87,10 +87,10 @@ a_for d = bind (one (t.Keyword kw.For) (d + 1)) (λ _. for_parts (d + 1))
 
 -- an expression as a statement, also one that begins with a brace
 abbrev pub a_run : ℕ → Language Statement
-a_run d = closed_by true d (t.Punct p.Semicolon) (λ e. nothing (run e))
+a_run d = closed_by true d (t.Punct p.Semicolon) (λ e. nothing (evaluate e))
 
 abbrev pub a_run_flat : ℕ → Language Statement
-a_run_flat d v m = (e : Tree) × Fits true 1 e × (v ≡ run e) × (m ≡ spelling d e ++ mark p.Semicolon ∷ [])
+a_run_flat d v m = (e : Tree) × Fits true 1 e × (v ≡ evaluate e) × (m ≡ spelling d e ++ mark p.Semicolon ∷ [])
 
 -- the kind that begins with the token
 abbrev pub kind : Bool → ℕ → Terminal → Language Statement
@@ -224,9 +224,9 @@ kind-here loops d (print_names e) r f = (
   brackets-then d e (mark p.Semicolon ∷ []) (λ e. semicolon (print_names e)) (print_names e) f (tt, mark p.Semicolon ∷ [], [], refl, (refl, refl), refl),
   refl,
 )
-kind-here loops d (run e) r f =
-    subst (λ c. kind loops d c (run e) (spelling d e ++ mark p.Semicolon ∷ [])) (sym (run-is d e r))
-    (run-kind loops d (first e) (run e) (spelling d e ++ mark p.Semicolon ∷ []) (first-begins true 1 e f.0) f.1 (e, f.0, refl, refl))
+kind-here loops d (evaluate e) r f =
+    subst (λ c. kind loops d c (evaluate e) (spelling d e ++ mark p.Semicolon ∷ [])) (sym (run-is d e r))
+    (run-kind loops d (first e) (evaluate e) (spelling d e ++ mark p.Semicolon ∷ []) (first-begins true 1 e f.0) f.1 (e, f.0, refl, refl))
 
 pub kind-at : (loops : Bool) (d : ℕ) (v : Statement) (m : List Mark) (r : List Terminal) → statement_language loops d v m → kind loops d (peek (terms m ++ r)) v m
 kind-at loops d v m r k = subst (λ w. kind loops d (peek (terms w ++ r)) v w) (sym k.1) (kind-here loops d v r k.0)
@@ -281,4 +281,4 @@ module _ (loops : Bool) (d : ℕ) (v : Statement) (m : List Mark) where
   run-to r away k =
       let f = run-flat k in
       let here : peek (terms m ++ r) ≡ first f.0 = ap (λ z. peek (terms z ++ r)) f.3 ∙ run-is d f.0 r in
-      is-statement (run f.0) f.2 (f.1, λ h. away (here ∙ h)) f.3
+      is-statement (evaluate f.0) f.2 (f.1, λ h. away (here ∙ h)) f.3

@@ -6,7 +6,7 @@ use Rattle.jo_tree.specs.declared.keyword.Keyword.{Keyword}
 use Rattle.jo_tree.specs.declared.keyword.Keyword.TheVariants as kw
 use Rattle.jo_grammar.specs.declared.terminal.Terminal.{Terminal}
 use Rattle.jo_grammar.specs.declared.terminal.Terminal.TheVariants as t
-use Rattle.jo_tree.specs.Trees.{Tree, Head, Statement, empty, block, when, either, while, for, break, continue, print, print_names, run, no_items}
+use Rattle.jo_tree.specs.Trees.{Tree, Head, Statement, empty, block, when, either, while, for, break, continue, print, print_names, evaluate, no_items}
 use Rattle.jo_grammar.specs.Expressions.{Mark, mark}
 use Rattle.jo_grammar.specs.Statements.{IsClosed}
 use Rattle.jo_grammar.specs.Refusals.{Language, terms}
@@ -69,7 +69,7 @@ some_names d = some-bind (in_brackets d) (λ e. semicolon (print_names e)) (some
 some_block : (loops : Bool) (d : ℕ) → (v : Statement) × (m : List Mark) × mapped block (items_end loops d brace no_items) v m
 some_block loops d = let b = some_items loops d brace no_items in (block b.0, b.1, (b.0, b.2, refl))
 
--- ---- statements behind which an `else` may stand
+-- ---- statements after which an `else` may stand
 
 when-not : (v : Statement) (c : Tree) (a : Statement) (h : Terminal) → v ≡ when c a → Open v h → h ≡ t.Keyword kw.Else → ⊥
 when-not v c a h same s e = subst (λ z. IsClosed z) same (s e)
@@ -90,7 +90,7 @@ leave-closed : (w : Keyword) (s v : Statement) (m : List Mark) → IsClosed s �
 leave-closed w s v m h (u, x, y, l, (u', x', y', l', (same, none), e'), e) = closed-as v s same h
 
 run-closed : (d : ℕ) (v : Statement) (m : List Mark) → a_run d v m → IsClosed v
-run-closed d v m k = let f = run-flat true d v m k in closed-as v (run f.0) f.2 tt
+run-closed d v m k = let f = run-flat true d v m k in closed-as v (evaluate f.0) f.2 tt
 
 -- ---- a semicolon
 
@@ -101,7 +101,7 @@ outcome-semicolon s limit ts = outcome-bind (one (t.Punct p.Semicolon) 0) Any An
 -- ---- what stands within a statement, where d constructs are open
 
 module _ (limit d room : ℕ) (sum : d + room ≡ limit) where
-  -- `print` behind its word
+  -- `print` after its word
   outcome-print : (ts : List Terminal) → Outcome (print_parts d) Any Any limit ts (print_after room ts)
   unfolding print_after
   outcome-print ts = outcome-enter (t.Punct p.OpenParen) d room limit ts (print_arguments d) Any Any _ (omega arith) sum (some_print d)
@@ -115,8 +115,8 @@ module _ (limit d room : ℕ) (sum : d + room ≡ limit) where
 
   outcome-run : (ts : List Terminal) → Outcome (a_run d) Any Any limit ts (run_at room ts)
   unfolding run_at
-  outcome-run ts = outcome-closed limit d (read room) (outcome-read room limit d sum) true (t.Punct p.Semicolon) (λ e. nothing (run e)) Any Any (omega arith) refl (λ e. (run e, [], (refl, refl))) (λ e r. Ok (run e, r)) ts
-      (λ e r short. outcome-pure (run e) Any Any limit r tt)
+  outcome-run ts = outcome-closed limit d (read room) (outcome-read room limit d sum) true (t.Punct p.Semicolon) (λ e. nothing (evaluate e)) Any Any (omega arith) refl (λ e. (evaluate e, [], (refl, refl))) (λ e r. Ok (evaluate e, r)) ts
+      (λ e r short. outcome-pure (evaluate e) Any Any limit r tt)
 
   module _ (within : Within) (ih : (loops : Bool) (ts : List Terminal) → Outcome (statement_language loops d) Open Open limit ts (within loops ts)) where
     outcome-else : (loops : Bool) (c : Tree) (a : Statement) (ts : List Terminal) → Open a (peek ts) → Outcome (else_rest loops d c a) Open Open limit ts (else_after within loops c a ts)

@@ -5,7 +5,7 @@ use Rattle.std.proofs.lemmas.Cmp.{nat_list_eq_equiv}
 use Rattle.std.specs.List.{find, take_while, prefix_len, position_or_len}
 use Rattle.std.specs.Str.{bytes_eq}
 use Rattle.jo_value.specs.declared.value.TextId.{TextId}
-use Rattle.jo_value.specs.Texts.{Table, number_in}
+use Rattle.jo_value.specs.Texts.{Table, id_in}
 use Rattle.jo_lex.specs.declared.token.Token.{Token}
 use Rattle.jo_lex.specs.declared.token.TokenKind.{TokenKind}
 use Rattle.jo_lex.specs.declared.token.TokenKind.TheVariants as kind
@@ -43,7 +43,7 @@ place-within p (x ∷ xs) (suc i) d le e = step (p x) (place-within p xs i d (om
     step false h = omega (arith, h)
 
 -- the text of a keyword that a number of the table means is in the table
-keyword-within : (texts : Table) (id : TextId) (w : Keyword) → id.0 < length texts → keyword_of (text_at texts id) ≡ Some w → number_in texts (keyword_text w) < length texts
+keyword-within : (texts : Table) (id : TextId) (w : Keyword) → id.0 < length texts → keyword_of (text_at texts id) ≡ Some w → id_in texts (keyword_text w) < length texts
 keyword-within texts id w h e =
     place-within (λ t. bytes_eq t (keyword_text w)) texts id.0 [] h (nat_list_eq_equiv.symm (text_at texts id) (keyword_text w) ∙ keyword-has (text_at texts id) w e)
 

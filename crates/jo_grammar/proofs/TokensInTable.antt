@@ -6,7 +6,7 @@ use Rattle.std.specs.Str.{encode_utf8_all}
 use Rattle.std.specs.Prelude.{pos}
 use Rattle.jo_value.specs.declared.limits.TheConstants.{MOST_NUMBER, MOST_TEXT_BYTES}
 use Rattle.jo_value.specs.declared.value.TextId.{TextId}
-use Rattle.jo_value.specs.Texts.{Table, number_in, interned}
+use Rattle.jo_value.specs.Texts.{Table, id_in, interned}
 use Rattle.jo_value.proofs.Places.{place_within}
 use Rattle.jo_lex.specs.declared.punct.Punct.{Punct}
 use Rattle.jo_lex.specs.declared.token.Token.{Token}
@@ -17,7 +17,7 @@ use Rattle.jo_lex.specs.Characters.{Characters, size, is_blank, is_digit, is_in_
 use Rattle.jo_lex.specs.Punctuators.{Entry, punctuator_of}
 use Rattle.jo_lex.specs.Words.{is_reserved}
 use Rattle.jo_lex.specs.Pieces.{Lexeme, word, text, number, punctuator, Piece, gap, lexeme, fault, after_close, closed, comment, word_piece, quoted, text_piece, decimal, judged, number_piece, accepted, punctuator_piece, token_piece, piece}
-use Rattle.jo_lex.specs.Tokens.{State, Next, ended, refused, onward, is_one_too_many, numbered, word_kind, kind_of, place_after, with_token, taken, next_of, next, going_on, reached, start, last, end_token, IsRead}
+use Rattle.jo_lex.specs.Tokens.{Progress, Advance, ended, refused, onward, is_one_too_many, numbered, word_kind, token_kind, place_after, with_token, taken, next_of, next, going_on, reached, start, last, end_token, IsRead}
 use Rattle.jo_grammar.specs.Sound.{IsInRange}
 
 -- ---- numbers in pieces
@@ -97,9 +97,9 @@ piece-range c cs =
 
 -- ---- tables
 
--- the table with more texts behind
+-- the table with more texts after
 abbrev pub Extends : Table → Table → Type 0
-Extends texts after = (behind : Table) × (after ≡ texts ++ behind)
+Extends texts after = (after : Table) × (after ≡ texts ++ after)
 
 pub extends-itself : (texts : Table) → Extends texts texts
 extends-itself texts = ([], sym (append-nil texts))
@@ -111,11 +111,11 @@ pub extends-length : (texts after : Table) → Extends texts after → length te
 extends-length texts after h = omega (arith, ap length h.1, length-append texts h.0)
 
 -- the text is in the table with it, and the table has only grown
-interned-good : (texts : Table) (bytes : List ℕ) → (number_in texts bytes < length (interned texts bytes)) × Extends texts (interned texts bytes)
-interned-good texts bytes = step (nat_lt (number_in texts bytes) (length texts)) refl
+interned-good : (texts : Table) (bytes : List ℕ) → (id_in texts bytes < length (interned texts bytes)) × Extends texts (interned texts bytes)
+interned-good texts bytes = step (nat_lt (id_in texts bytes) (length texts)) refl
   where
-    step : (b : Bool) → nat_lt (number_in texts bytes) (length texts) ≡ b
-        → (number_in texts bytes < length (if b then texts else texts ++ bytes ∷ [])) × Extends texts (if b then texts else texts ++ bytes ∷ [])
+    step : (b : Bool) → nat_lt (id_in texts bytes) (length texts) ≡ b
+        → (id_in texts bytes < length (if b then texts else texts ++ bytes ∷ [])) × Extends texts (if b then texts else texts ++ bytes ∷ [])
     step true e = (ltb-true _ _ e, extends-itself texts)
     step false e = (omega (arith, place_within texts bytes, length-append texts (bytes ∷ [])), (bytes ∷ [], refl))
 
@@ -142,21 +142,21 @@ abbrev IsGoodFound : Table → Option (TokenKind × Table) → Type 0
 IsGoodFound texts None = Unit {0}
 IsGoodFound texts (Some found) = IsGoodKind (length found.1) found.0 × Extends texts found.1
 
-numbered-good : (of : TextId → TokenKind) (texts : Table) (bytes : List ℕ) → ((n : ℕ) (id : TextId) → id.0 < n → IsGoodKind n (of id)) → IsGoodFound texts (numbered of texts bytes)
-numbered-good of texts bytes good = step (is_one_too_many texts bytes)
+identified-good : (of : TextId → TokenKind) (texts : Table) (bytes : List ℕ) → ((n : ℕ) (id : TextId) → id.0 < n → IsGoodKind n (of id)) → IsGoodFound texts (numbered of texts bytes)
+identified-good of texts bytes good = step (is_one_too_many texts bytes)
   where
-    step : (b : Bool) → IsGoodFound texts (if b then None else Some (of (record { 0 = number_in texts bytes }), interned texts bytes))
+    step : (b : Bool) → IsGoodFound texts (if b then None else Some (of (record { 0 = id_in texts bytes }), interned texts bytes))
     step true = tt
-    step false = let h = interned-good texts bytes in (good (length (interned texts bytes)) (record { 0 = number_in texts bytes }) h.0, h.1)
+    step false = let h = interned-good texts bytes in (good (length (interned texts bytes)) (record { 0 = id_in texts bytes }) h.0, h.1)
 
 word-good : (b : Bool) (n : ℕ) (id : TextId) → id.0 < n → IsGoodKind n (word_kind b id)
 word-good true n id h = h
 word-good false n id h = h
 
-kind-good : (texts : Table) (l : Lexeme) → IsRanged l → IsGoodFound texts (kind_of texts l)
-kind-good texts (word bytes) h = numbered-good (word_kind (is_reserved bytes)) texts bytes (word-good (is_reserved bytes))
+kind-good : (texts : Table) (l : Lexeme) → IsRanged l → IsGoodFound texts (token_kind texts l)
+kind-good texts (word bytes) h = identified-good (word_kind (is_reserved bytes)) texts bytes (word-good (is_reserved bytes))
 kind-good texts (number i) h = (h, extends-itself texts)
-kind-good texts (text bytes) h = numbered-good kind.Text texts bytes (λ n id h. h)
+kind-good texts (text bytes) h = identified-good kind.Text texts bytes (λ n id h. h)
 kind-good texts (punctuator c) h = (tt, extends-itself texts)
 
 -- ---- tokens
@@ -176,17 +176,17 @@ tokens-push n (first ∷ tokens) token h k = (h.0, tokens-push n tokens token h.
 -- ---- from piece to piece
 
 -- from a table at most so many tokens were read, which are good for the table now
-record IsGoodState (texts : Table) (most : ℕ) (s : State) : Type 0 where
+record IsGoodState (texts : Table) (most : ℕ) (s : Progress) : Type 0 where
   good : AreGoodTokens (length s.table) s.tokens
   grown : Extends texts s.table
   few : length s.tokens ≤ most
 
-abbrev GoesOnGood : Table → ℕ → Next → Type 0
+abbrev GoesOnGood : Table → ℕ → Advance → Type 0
 GoesOnGood texts most ended = Unit {0}
 GoesOnGood texts most (refused k) = Unit {0}
 GoesOnGood texts most (onward s) = IsGoodState texts most s
 
-token-good : (texts : Table) (most : ℕ) (s : State) (rest : Characters) (found : Option (TokenKind × Table)) → IsGoodFound s.table found → IsGoodState texts most s → GoesOnGood texts (most + 1) (with_token s rest found)
+token-good : (texts : Table) (most : ℕ) (s : Progress) (rest : Characters) (found : Option (TokenKind × Table)) → IsGoodFound s.table found → IsGoodState texts most s → GoesOnGood texts (most + 1) (with_token s rest found)
 token-good texts most s rest None h k = tt
 token-good texts most s rest (Some found) h k =
     let token : Token = record { kind = found.0; start = s.place; end = place_after s rest } in record {
@@ -195,25 +195,25 @@ token-good texts most s rest (Some found) h k =
       few = omega (arith, k.few, length-append s.tokens (token ∷ []));
     }
 
-taken-good : (texts : Table) (most : ℕ) (s : State) (p : Piece) → HasRange p → IsGoodState texts most s → GoesOnGood texts (most + 1) (taken s p)
+taken-good : (texts : Table) (most : ℕ) (s : Progress) (p : Piece) → HasRange p → IsGoodState texts most s → GoesOnGood texts (most + 1) (taken s p)
 taken-good texts most s (gap rest) h k = record { good = k.good; grown = k.grown; few = omega (arith, k.few) }
-taken-good texts most s (lexeme l rest) h k = token-good texts most s rest (kind_of s.table l) (kind-good s.table l h) k
+taken-good texts most s (lexeme l rest) h k = token-good texts most s rest (token_kind s.table l) (kind-good s.table l h) k
 taken-good texts most s (fault f) h k = tt
 
-next-good : (texts : Table) (most : ℕ) (s : State) (cs : Characters) → IsGoodState texts most s → GoesOnGood texts (most + 1) (next_of s cs)
+next-good : (texts : Table) (most : ℕ) (s : Progress) (cs : Characters) → IsGoodState texts most s → GoesOnGood texts (most + 1) (next_of s cs)
 next-good texts most s [] k = tt
 next-good texts most s (c ∷ cs) k = taken-good texts most s (piece c cs) (piece-range c cs) k
 
-state-wider : (texts : Table) (most n : ℕ) (s : State) → most ≤ n → IsGoodState texts most s → IsGoodState texts n s
+state-wider : (texts : Table) (most n : ℕ) (s : Progress) → most ≤ n → IsGoodState texts most s → IsGoodState texts n s
 state-wider texts most n s le k = record { good = k.good; grown = k.grown; few = omega (arith, le, k.few) }
 
-going-good : (texts : Table) (n most : ℕ) (s : State) (x : Next) → GoesOnGood texts (most + 1) x → IsGoodState texts most s
-    → ((t : State) → IsGoodState texts (most + 1) t → IsGoodState texts (n + (most + 1)) (reached n t)) → IsGoodState texts (suc n + most) (going_on (reached n) s x)
+going-good : (texts : Table) (n most : ℕ) (s : Progress) (x : Advance) → GoesOnGood texts (most + 1) x → IsGoodState texts most s
+    → ((t : Progress) → IsGoodState texts (most + 1) t → IsGoodState texts (n + (most + 1)) (reached n t)) → IsGoodState texts (suc n + most) (going_on (reached n) s x)
 going-good texts n most s ended h k ih = state-wider texts most (suc n + most) s (omega arith) k
 going-good texts n most s (refused f) h k ih = state-wider texts most (suc n + most) s (omega arith) k
 going-good texts n most s (onward t) h k ih = state-wider texts (n + (most + 1)) (suc n + most) (reached n t) (omega arith) (ih t h)
 
-reached-good : (texts : Table) (n most : ℕ) (s : State) → IsGoodState texts most s → IsGoodState texts (n + most) (reached n s)
+reached-good : (texts : Table) (n most : ℕ) (s : Progress) → IsGoodState texts most s → IsGoodState texts (n + most) (reached n s)
 unfolding reached
 reached-good texts zero most s k = state-wider texts most (0 + most) s (omega arith) k
 reached-good texts (suc n) most s k = going-good texts n most s (next s) (next-good texts most s s.rest k) k (λ t h. reached-good texts n (most + 1) t h)

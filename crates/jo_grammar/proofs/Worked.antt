@@ -12,7 +12,7 @@ use Rattle.jo_grammar.specs.declared.terminal.Terminal.TheVariants as t
 use Rattle.jo_tree.specs.declared.word.Ident.{Ident}
 use Rattle.jo_tree.specs.declared.word.Name.TheVariants as name
 use Rattle.jo_tree.specs.declared.word.PropKey.TheVariants as key
-use Rattle.jo_tree.specs.Trees.{Tree, number, constant, variable, group, object, cas, member, unary, delete, chain, choose, assign, no_props, prop, Accesses, no_accesses, field, index, no_links, link, declares, begins, Statement, empty, block, when, either, while, for, break, continue, print, print_names, run, Items, no_items, declare, perform}
+use Rattle.jo_tree.specs.Trees.{Tree, number, constant, variable, group, object, cas, member, unary, delete, chain, choose, assign, no_props, prop, Accesses, no_accesses, field, index, no_links, link, declares, begins, Statement, empty, block, when, either, while, for, break, continue, print, print_names, evaluate, Items, no_items, declare, perform}
 use Rattle.jo_grammar.specs.Expressions.{Mark, plain, mark, word, Fits, IsExpression, spelling}
 use Rattle.jo_grammar.specs.Statements.{FitStatement, FitItems, FitHead, IsScript, statement}
 use Rattle.jo_grammar.specs.Refusals.{terms, Within, OpensTooMany}
@@ -74,7 +74,7 @@ colon = mark p.Colon
 abbrev comma : Mark
 comma = mark p.Comma
 
--- the name of a variable, behind a dot
+-- the name of a variable, after a dot
 abbrev dot : ℕ → Accesses → Accesses
 dot n xs = field (name.Ident (ident n)) xs
 
@@ -282,15 +282,15 @@ a_reserved_word_is_a_key = ((refl, tt, tt), refl)
 pub proto_is_no_key : Fits true 1 (object (prop (key.Name (name.Ident proto)) a no_props) false) → ⊥
 proto_is_no_key h = true≢false h.0
 
--- nor has `{"__proto__": a}`, also behind another property
+-- nor has `{"__proto__": a}`, also after another property
 pub proto_is_no_key_as_a_text :
     Fits true 1 (object (prop (key.Number (pos 1)) a (prop (key.Text (record { text = record { 0 = 9 }; is_proto = true })) a no_props)) false) → ⊥
 proto_is_no_key_as_a_text h = true≢false h.2.0
 
 -- `a.__proto__` has one
-pub proto_is_a_name_behind_a_dot :
+pub proto_is_a_name_after_a_dot :
     IsExpression true 0 (member a (field (name.Ident proto) no_accesses)) (word_ 0 ∷ mark p.Dot ∷ plain (t.Ident proto) ∷ [])
-proto_is_a_name_behind_a_dot = ((omega arith, tt, refl), refl)
+proto_is_a_name_after_a_dot = ((omega arith, tt, refl), refl)
 
 -- `else`.
 
@@ -422,7 +422,7 @@ an_in_may_stand_in_a_swap_there =
 
 -- Loops and what leaves them.
 
--- in `while (!a) if (!b) printNames((c)); else if (!d) ;` a statement and its bracket are open in the condition, and the statement alone behind it
+-- in `while (!a) if (!b) printNames((c)); else if (!d) ;` a statement and its bracket are open in the condition, and the statement alone after it
 pub a_condition_is_two_constructs_deep :
     IsScript (alone (while (unary un.Not a) (either (unary un.Not b) (print_names (group c)) (when (unary un.Not d) empty))))
     (opening_word kw.While 1 ∷ opening p.OpenParen 2 ∷ opening p.Bang 3 ∷ word_ 0 ∷ round ∷ opening_word kw.If 2 ∷ opening p.OpenParen 3 ∷ opening p.Bang 4 ∷ word_ 1 ∷ round
@@ -445,8 +445,8 @@ pub no_if_is_a_loop : FitItems false (alone (when a continue)) → ⊥
 no_if_is_a_loop h = true≢false (sym h.0.1)
 
 -- nor `while (a) ; break;`
-pub no_break_stands_behind_a_loop : FitItems false (perform (while a empty) (perform break no_items)) → ⊥
-no_break_stands_behind_a_loop h = true≢false (sym h.1.0)
+pub no_break_stands_after_a_loop : FitItems false (perform (while a empty) (perform break no_items)) → ⊥
+no_break_stands_after_a_loop h = true≢false (sym h.1.0)
 
 -- Statements that are expressions.
 
@@ -456,17 +456,17 @@ pub braces_at_the_start_are_a_block :
 braces_at_the_start_are_a_block = ((tt, (tt, tt)), refl)
 
 -- and no object
-pub no_statement_is_an_object : FitStatement false (run (object no_props false)) → ⊥
+pub no_statement_is_an_object : FitStatement false (evaluate (object no_props false)) → ⊥
 no_statement_is_an_object h = h.1 refl
 
 -- `{}.a = b;` has no tree
 pub no_statement_begins_with_an_object :
-    FitStatement false (run (assign set.Set (member (object no_props false) (dot 0 no_accesses)) b)) → ⊥
+    FitStatement false (evaluate (assign set.Set (member (object no_props false) (dot 0 no_accesses)) b)) → ⊥
 no_statement_begins_with_an_object h = h.1 refl
 
 -- `({});` is an object
 pub an_object_in_brackets_is_a_statement :
-    IsScript (alone (run (group (object no_props false)))) (opening p.OpenParen 1 ∷ opening p.OpenBrace 2 ∷ brace ∷ round ∷ semicolon ∷ [])
+    IsScript (alone (evaluate (group (object no_props false)))) (opening p.OpenParen 1 ∷ opening p.OpenBrace 2 ∷ brace ∷ round ∷ semicolon ∷ [])
 an_object_in_brackets_is_a_statement = (((refl, λ h. cc), tt), refl)
 
 -- so is the one in `print({}, a);`
@@ -498,7 +498,7 @@ conditions from zero = []
 conditions from (suc n) =
     opening_word kw.If (from + 1) ∷ opening p.OpenParen (from + 1 + 1) ∷ plain (t.Number (pos 1)) ∷ round ∷ conditions (from + 1) n
 
--- what keeps within the limit does so with what keeps within it behind
+-- what keeps within the limit does so with what keeps within it after
 within_both : (limit : ℕ) (m n : List Mark) → Within limit m → Within limit n → Within limit (m ++ n)
 within_both limit [] n f g = g
 within_both limit (x ∷ m) n f g = (f.0, within_both limit m n f.1 g)

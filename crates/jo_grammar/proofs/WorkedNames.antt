@@ -9,8 +9,8 @@ use Rattle.jo_tree.specs.declared.operator.UnaryOperator.TheVariants as unary_op
 use Rattle.jo_tree.specs.declared.word.Ident.{Ident}
 use Rattle.jo_tree.specs.declared.word.Name.TheVariants as word
 use Rattle.jo_tree.specs.declared.word.PropKey.TheVariants as prop_key
-use Rattle.jo_tree.specs.Trees.{Tree, number, constant, variable, group, object, cas, member, unary, delete, chain, choose, assign, no_props, prop, no_accesses, field, index, no_links, link, Binding, declares, begins, Statement, empty, block, when, either, while, for, print, print_names, run, Items, no_items, declare, perform}
-use Rattle.jo_grammar.specs.Declarations.{undeclared, twice, faults, refusal_of}
+use Rattle.jo_tree.specs.Trees.{Tree, number, constant, variable, group, object, cas, member, unary, delete, chain, choose, assign, no_props, prop, no_accesses, field, index, no_links, link, Binding, declares, begins, Statement, empty, block, when, either, while, for, print, print_names, evaluate, Items, no_items, declare, perform}
+use Rattle.jo_grammar.specs.Declarations.{undeclared, twice, faults, first_fault}
 
 -- ---- the words of the cases
 
@@ -63,7 +63,7 @@ then s items = perform s items
 
 -- an expression as a statement and the whole script
 abbrev pub alone : Tree → Items
-alone e = all (run e ∷ [])
+alone e = all (evaluate e ∷ [])
 
 -- a property by its name
 abbrev pub dot : Tree → Ident → Tree
@@ -80,8 +80,8 @@ pub what_no_block_declares_is_undeclared : faults (all (show (a 6) ∷ [])) ≡ 
 what_no_block_declares_is_undeclared = refl
 
 -- let a = 1; print(a);
-pub a_use_behind_its_binding_is_no_fault : faults (with (a 4) one (all (show (a 17) ∷ []))) ≡ []
-a_use_behind_its_binding_is_no_fault = refl
+pub a_use_after_its_binding_is_no_fault : faults (with (a 4) one (all (show (a 17) ∷ []))) ≡ []
+a_use_after_its_binding_is_no_fault = refl
 
 -- let a; print(a);
 pub a_binding_without_a_value_binds_too : faults (with_bare (a 4) (all (show (a 13) ∷ []))) ≡ []
@@ -108,8 +108,8 @@ pub each_binding_of_a_let_declares_its_name : faults (declare (bare (a 4) ∷ ba
 each_binding_of_a_let_declares_its_name = refl
 
 -- let a; let b; print(a);
-pub a_binding_that_has_ended_stays_so_behind_another : faults (with_bare (a 4) (with_bare (b 11) (all (show (a 20) ∷ [])))) ≡ []
-a_binding_that_has_ended_stays_so_behind_another = refl
+pub a_binding_that_has_ended_stays_so_after_another : faults (with_bare (a 4) (with_bare (b 11) (all (show (a 20) ∷ [])))) ≡ []
+a_binding_that_has_ended_stays_so_after_another = refl
 
 -- print(a); let a; print(a);
 pub uses_on_both_sides_of_the_let_are_told_apart : faults (then (show (a 6)) (with_bare (a 14) (all (show (a 23) ∷ [])))) ≡ (undeclared, 6) ∷ []
@@ -118,8 +118,8 @@ uses_on_both_sides_of_the_let_are_told_apart = refl
 -- ---- blocks
 
 -- { let a; } print(a);
-pub a_name_is_not_declared_behind_its_block : faults (all (block (with_bare (a 6) no_items) ∷ show (a 17) ∷ [])) ≡ (undeclared, 17) ∷ []
-a_name_is_not_declared_behind_its_block = refl
+pub a_name_is_not_declared_after_its_block : faults (all (block (with_bare (a 6) no_items) ∷ show (a 17) ∷ [])) ≡ (undeclared, 17) ∷ []
+a_name_is_not_declared_after_its_block = refl
 
 -- let a; { { print(a); } }
 pub blocks_inside_see_a_name_of_a_block_outside : faults (with_bare (a 4) (all (block (all (block (all (show (a 17) ∷ [])) ∷ [])) ∷ []))) ≡ []
@@ -146,7 +146,7 @@ pub the_inner_binding_is_meant_in_a_value_of_another : faults (with_bare (a 4) (
 the_inner_binding_is_meant_in_a_value_of_another = refl
 
 -- let a; { a = 1; let a; }
-pub the_inner_binding_is_meant_by_a_target : faults (with_bare (a 4) (all (block (then (run (assign assign_op.Set (variable (a 9)) one)) (with_bare (a 20) no_items)) ∷ []))) ≡ (undeclared, 9) ∷ []
+pub the_inner_binding_is_meant_by_a_target : faults (with_bare (a 4) (all (block (then (evaluate (assign assign_op.Set (variable (a 9)) one)) (with_bare (a 20) no_items)) ∷ []))) ≡ (undeclared, 9) ∷ []
 the_inner_binding_is_meant_by_a_target = refl
 
 -- let a; { { print(a); } let a; }
@@ -205,33 +205,33 @@ two_declarations_in_a_block_inside_are_a_fault = refl
 pub a_use_in_its_own_value_before_a_second_declaration : faults (with (a 4) (variable (a 8)) (with_bare (a 15) no_items)) ≡ (undeclared, 8) ∷ (twice, 15) ∷ []
 a_use_in_its_own_value_before_a_second_declaration = refl
 
-pub a_use_in_its_own_value_before_a_second_declaration_first : refusal_of (with (a 4) (variable (a 8)) (with_bare (a 15) no_items)) ≡ Some (undeclared, 8)
+pub a_use_in_its_own_value_before_a_second_declaration_first : first_fault (with (a 4) (variable (a 8)) (with_bare (a 15) no_items)) ≡ Some (undeclared, 8)
 a_use_in_its_own_value_before_a_second_declaration_first = refl
 
 -- let a; let a; print(b);
 pub a_second_declaration_before_a_use : faults (with_bare (a 4) (with_bare (a 11) (all (show (b 20) ∷ [])))) ≡ (twice, 11) ∷ (undeclared, 20) ∷ []
 a_second_declaration_before_a_use = refl
 
-pub a_second_declaration_before_a_use_first : refusal_of (with_bare (a 4) (with_bare (a 11) (all (show (b 20) ∷ [])))) ≡ Some (twice, 11)
+pub a_second_declaration_before_a_use_first : first_fault (with_bare (a 4) (with_bare (a 11) (all (show (b 20) ∷ [])))) ≡ Some (twice, 11)
 a_second_declaration_before_a_use_first = refl
 
 -- print(b); let a, a;
 pub a_use_before_a_second_declaration : faults (then (show (b 6)) (declare (bare (a 14) ∷ bare (a 17) ∷ []) no_items)) ≡ (undeclared, 6) ∷ (twice, 17) ∷ []
 a_use_before_a_second_declaration = refl
 
-pub a_use_before_a_second_declaration_first : refusal_of (then (show (b 6)) (declare (bare (a 14) ∷ bare (a 17) ∷ []) no_items)) ≡ Some (undeclared, 6)
+pub a_use_before_a_second_declaration_first : first_fault (then (show (b 6)) (declare (bare (a 14) ∷ bare (a 17) ∷ []) no_items)) ≡ Some (undeclared, 6)
 a_use_before_a_second_declaration_first = refl
 
 -- let a, a = b;
 pub a_second_declaration_before_its_own_value : faults (declare (bare (a 4) ∷ set (a 7) (variable (b 11)) ∷ []) no_items) ≡ (twice, 7) ∷ (undeclared, 11) ∷ []
 a_second_declaration_before_its_own_value = refl
 
-pub a_second_declaration_before_its_own_value_first : refusal_of (declare (bare (a 4) ∷ set (a 7) (variable (b 11)) ∷ []) no_items) ≡ Some (twice, 7)
+pub a_second_declaration_before_its_own_value_first : first_fault (declare (bare (a 4) ∷ set (a 7) (variable (b 11)) ∷ []) no_items) ≡ Some (twice, 7)
 a_second_declaration_before_its_own_value_first = refl
 
 -- { let a, a; } print(b);
-pub a_fault_in_a_block_before_one_behind_it : faults (all (block (declare (bare (a 6) ∷ bare (a 9) ∷ []) no_items) ∷ show (b 20) ∷ [])) ≡ (twice, 9) ∷ (undeclared, 20) ∷ []
-a_fault_in_a_block_before_one_behind_it = refl
+pub a_fault_in_a_block_before_one_after_it : faults (all (block (declare (bare (a 6) ∷ bare (a 9) ∷ []) no_items) ∷ show (b 20) ∷ [])) ≡ (twice, 9) ∷ (undeclared, 20) ∷ []
+a_fault_in_a_block_before_one_after_it = refl
 
 -- ---- `for`
 
@@ -272,8 +272,8 @@ pub the_body_declares_nothing_for_the_other_parts : faults (all (for (begins Non
 the_body_declares_nothing_for_the_other_parts = refl
 
 -- for (let a; ; ) ; print(a);
-pub a_name_of_a_head_is_not_declared_behind_the_for : faults (all (for_let (bare (a 9) ∷ []) empty ∷ show (a 24) ∷ [])) ≡ (undeclared, 24) ∷ []
-a_name_of_a_head_is_not_declared_behind_the_for = refl
+pub a_name_of_a_head_is_not_declared_after_the_for : faults (all (for_let (bare (a 9) ∷ []) empty ∷ show (a 24) ∷ [])) ≡ (undeclared, 24) ∷ []
+a_name_of_a_head_is_not_declared_after_the_for = refl
 
 -- for (let a; ; ) ; for (let a; ; ) ;
 pub two_heads_may_declare_one_name : faults (all (for_let (bare (a 9) ∷ []) empty ∷ for_let (bare (a 27) ∷ []) empty ∷ [])) ≡ []
@@ -336,7 +336,7 @@ pub a_target_comes_before_its_value : faults (alone (assign assign_op.Add (varia
 a_target_comes_before_its_value = refl
 
 -- a = 1; print(a);
-pub an_assignment_declares_nothing : faults (all (run (assign assign_op.Set (variable (a 0)) one) ∷ show (a 13) ∷ [])) ≡ (undeclared, 0) ∷ (undeclared, 13) ∷ []
+pub an_assignment_declares_nothing : faults (all (evaluate (assign assign_op.Set (variable (a 0)) one) ∷ show (a 13) ∷ [])) ≡ (undeclared, 0) ∷ (undeclared, 13) ∷ []
 an_assignment_declares_nothing = refl
 
 -- a.b = 1;
@@ -352,8 +352,8 @@ pub a_key_in_square_brackets_is_a_use : faults (with_bare (a 4) (alone (member (
 a_key_in_square_brackets_is_a_use = refl
 
 -- a.b[c][d];
-pub a_key_behind_another_access_is_a_use : faults (alone (member (variable (a 0)) (field (word.Ident (b 2)) (index (variable (c 4)) (index (variable (d 7)) no_accesses))))) ≡ (undeclared, 0) ∷ (undeclared, 4) ∷ (undeclared, 7) ∷ []
-a_key_behind_another_access_is_a_use = refl
+pub a_key_after_another_access_is_a_use : faults (alone (member (variable (a 0)) (field (word.Ident (b 2)) (index (variable (c 4)) (index (variable (d 7)) no_accesses))))) ≡ (undeclared, 0) ∷ (undeclared, 4) ∷ (undeclared, 7) ∷ []
+a_key_after_another_access_is_a_use = refl
 
 -- shared.a;
 pub the_shared_object_is_no_use : faults (alone (dot (constant keyword.Shared) (a 7))) ≡ []

@@ -9,7 +9,7 @@ use Rattle.jo_tree.specs.declared.operator.UnaryOperator.TheVariants as unary_op
 use Rattle.jo_tree.specs.declared.word.Name.TheVariants as word
 use Rattle.jo_tree.specs.declared.word.PropKey.{PropKey}
 use Rattle.jo_tree.specs.declared.word.PropKey.TheVariants as prop_key
-use Rattle.jo_tree.specs.Trees.{Tree, number, constant, variable, group, object, cas, member, unary, delete, chain, choose, assign, no_props, prop, no_accesses, field, index, no_links, link, declares, begins, empty, block, when, either, while, for, break, continue, print, print_names, run, no_items, declare}
+use Rattle.jo_tree.specs.Trees.{Tree, number, constant, variable, group, object, cas, member, unary, delete, chain, choose, assign, no_props, prop, no_accesses, field, index, no_links, link, declares, begins, empty, block, when, either, while, for, break, continue, print, print_names, evaluate, no_items, declare}
 use Rattle.jo_grammar.specs.Sound.{count_of_props, count_of_accesses, count_of_links, count_of_items, IsNamed, IsKeyed, Suits, SuitsStatement, SuitItems, IsSound}
 use Rattle.jo_grammar.proofs.WorkedNames.{a, b, d, one, set, bare, with, with_bare, all, then, alone, dot, for_let}
 use Rattle.jo_grammar.proofs.WorkedSound.{texts}
@@ -47,7 +47,7 @@ pub each_link_is_counted : count_of_links (link op.Plus one (link op.Plus one no
 each_link_is_counted = refl
 
 -- let a; 1; let b;
-pub each_item_is_counted : count_of_items (with_bare (a 4) (then (run one) (with_bare (b 14) no_items))) ≡ 3
+pub each_item_is_counted : count_of_items (with_bare (a 4) (then (evaluate one) (with_bare (b 14) no_items))) ≡ 3
 each_item_is_counted = refl
 
 -- ---- words
@@ -119,12 +119,12 @@ pub what_stands_in_square_brackets_is_judged : Suits texts (member one (index wr
 what_stands_in_square_brackets_is_judged h = wrong_is_not h.2.0
 
 -- a.a[d]
-pub an_access_behind_a_name_is_judged : Suits texts (member (variable (a 0)) (field (word.Ident (a 2)) (index wrong no_accesses))) → ⊥
-an_access_behind_a_name_is_judged h = wrong_is_not h.2.1.0
+pub an_access_after_a_name_is_judged : Suits texts (member (variable (a 0)) (field (word.Ident (a 2)) (index wrong no_accesses))) → ⊥
+an_access_after_a_name_is_judged h = wrong_is_not h.2.1.0
 
 -- 1[1][d]
-pub an_access_behind_square_brackets_is_judged : Suits texts (member one (index one (index wrong no_accesses))) → ⊥
-an_access_behind_square_brackets_is_judged h = wrong_is_not h.2.1.0
+pub an_access_after_square_brackets_is_judged : Suits texts (member one (index one (index wrong no_accesses))) → ⊥
+an_access_after_square_brackets_is_judged h = wrong_is_not h.2.1.0
 
 -- -d
 pub the_operand_of_a_sign_is_judged : Suits texts (unary unary_op.Minus wrong) → ⊥
@@ -195,15 +195,15 @@ pub the_second_binding_of_a_let_is_judged : SuitItems texts (declare (bare (a 4)
 the_second_binding_of_a_let_is_judged h = wrong_is_not h.0.1.2.1
 
 -- let a; d;
-pub an_item_behind_a_let_is_judged : SuitItems texts (with_bare (a 4) (alone wrong)) → ⊥
-an_item_behind_a_let_is_judged h = wrong_is_not h.1.0
+pub an_item_after_a_let_is_judged : SuitItems texts (with_bare (a 4) (alone wrong)) → ⊥
+an_item_after_a_let_is_judged h = wrong_is_not h.1.0
 
 -- 1; d;
-pub an_item_behind_a_statement_is_judged : SuitItems texts (all (run one ∷ run wrong ∷ [])) → ⊥
-an_item_behind_a_statement_is_judged h = wrong_is_not h.1.0
+pub an_item_after_a_statement_is_judged : SuitItems texts (all (evaluate one ∷ evaluate wrong ∷ [])) → ⊥
+an_item_after_a_statement_is_judged h = wrong_is_not h.1.0
 
 -- d;
-pub an_expression_statement_is_judged : SuitsStatement texts (run wrong) → ⊥
+pub an_expression_statement_is_judged : SuitsStatement texts (evaluate wrong) → ⊥
 an_expression_statement_is_judged h = wrong_is_not h
 
 -- { d; }
@@ -215,7 +215,7 @@ pub the_condition_of_an_if_is_judged : SuitsStatement texts (when wrong empty) �
 the_condition_of_an_if_is_judged h = wrong_is_not h.0
 
 -- if (1) d;
-pub the_branch_of_an_if_is_judged : SuitsStatement texts (when one (run wrong)) → ⊥
+pub the_branch_of_an_if_is_judged : SuitsStatement texts (when one (evaluate wrong)) → ⊥
 the_branch_of_an_if_is_judged h = wrong_is_not h.1
 
 -- if (d) ; else ;
@@ -223,11 +223,11 @@ pub the_condition_of_an_if_with_an_else_is_judged : SuitsStatement texts (either
 the_condition_of_an_if_with_an_else_is_judged h = wrong_is_not h.0
 
 -- if (1) d; else ;
-pub its_first_branch_is_judged : SuitsStatement texts (either one (run wrong) empty) → ⊥
+pub its_first_branch_is_judged : SuitsStatement texts (either one (evaluate wrong) empty) → ⊥
 its_first_branch_is_judged h = wrong_is_not h.1
 
 -- if (1) ; else d;
-pub its_second_branch_is_judged : SuitsStatement texts (either one empty (run wrong)) → ⊥
+pub its_second_branch_is_judged : SuitsStatement texts (either one empty (evaluate wrong)) → ⊥
 its_second_branch_is_judged h = wrong_is_not h.2
 
 -- while (d) ;
@@ -235,7 +235,7 @@ pub the_condition_of_a_while_is_judged : SuitsStatement texts (while wrong empty
 the_condition_of_a_while_is_judged h = wrong_is_not h.0
 
 -- while (1) d;
-pub the_body_of_a_while_is_judged : SuitsStatement texts (while one (run wrong)) → ⊥
+pub the_body_of_a_while_is_judged : SuitsStatement texts (while one (evaluate wrong)) → ⊥
 the_body_of_a_while_is_judged h = wrong_is_not h.1
 
 -- for (let a = d; ; ) ;
@@ -255,7 +255,7 @@ pub the_step_of_a_for_is_judged : SuitsStatement texts (for (begins None) None (
 the_step_of_a_for_is_judged h = wrong_is_not h.2
 
 -- for (; ; ) d;
-pub the_body_of_a_for_is_judged : SuitsStatement texts (for (begins None) None None (run wrong)) → ⊥
+pub the_body_of_a_for_is_judged : SuitsStatement texts (for (begins None) None None (evaluate wrong)) → ⊥
 the_body_of_a_for_is_judged h = wrong_is_not h.3
 
 -- print(d);

@@ -7,7 +7,7 @@ use Rattle.jo_tree.specs.declared.keyword.Keyword.TheVariants as kw
 use Rattle.jo_tree.specs.declared.operator.UnaryOperator.TheVariants as un
 use Rattle.jo_grammar.specs.declared.terminal.Terminal.{Terminal}
 use Rattle.jo_grammar.specs.declared.terminal.Terminal.TheVariants as t
-use Rattle.jo_tree.specs.Trees.{Tree, number, literal, constant, variable, group, object, cas, member, unary, delete, chain, choose, assign, empty, block, when, either, while, for, break, continue, print, print_names, run, Items, no_items, declare, perform}
+use Rattle.jo_tree.specs.Trees.{Tree, number, literal, constant, variable, group, object, cas, member, unary, delete, chain, choose, assign, empty, block, when, either, while, for, break, continue, print, print_names, evaluate, Items, no_items, declare, perform}
 use Rattle.jo_grammar.specs.Expressions.{Mark, mark, Fits, spelling, first}
 use Rattle.jo_grammar.specs.Statements.{FitItems, IsScript, items}
 use Rattle.jo_grammar.specs.Refusals.{terms, IsAccepted, IsRefused, unexpected, too_deep}
@@ -47,8 +47,8 @@ some_token d e s h =
 bracketed_text : (d : ℕ) (e : Tree) (s : List Mark) (q : List Terminal) → terms (spelling d e ++ s) ≡ bracket ∷ q → IsBracketed d (spelling d e ++ s)
 bracketed_text d e s q h = bracketed_further d (spelling d e) s (bracketed_by_first d e (first_of_text d e s bracket q h))
 
-behind_bracket : (d : ℕ) (m k l : List Mark) → m ≡ (bracket, d + 1) ∷ k → k ≡ l → m ≡ (bracket, d + 1) ∷ l
-behind_bracket d m k l text inside = text ∙ ap (λ x. (bracket, d + 1) ∷ x) inside
+after_bracket : (d : ℕ) (m k l : List Mark) → m ≡ (bracket, d + 1) ∷ k → k ≡ l → m ≡ (bracket, d + 1) ∷ l
+after_bracket d m k l text inside = text ∙ ap (λ x. (bracket, d + 1) ∷ x) inside
 
 -- each of the brackets that a text begins with opens one construct more
 brackets_count : (n d : ℕ) (e : Tree) (s : List Mark) (q : List Terminal) → terms (spelling d e ++ s) ≡ replicate n bracket ++ bracket ∷ q
@@ -64,7 +64,7 @@ brackets_count (suc n) d e s q h =
       (bracket, d + 1) ∷ deeper.0,
       deeper.1,
       deeper.2,
-      behind_bracket d (spelling d e ++ s) (spelling (d + 1) text.0 ++ text.1) (deeper.0 ++ (bracket, deeper.1) ∷ deeper.2) text.2 deeper.3,
+      after_bracket d (spelling d e ++ s) (spelling (d + 1) text.0 ++ text.1) (deeper.0 ++ (bracket, deeper.1) ∷ deeper.2) text.2 deeper.3,
       ap (λ k. bracket ∷ k) deeper.4,
       omega (arith, deeper.5),
     )
@@ -93,7 +93,7 @@ bracket_begins_expression (perform break is) q h = let no : t.Keyword kw.Break �
 bracket_begins_expression (perform continue is) q h = let no : t.Keyword kw.Continue ≡ bracket = ap top h in absurd cc
 bracket_begins_expression (perform (print es) is) q h = let no : t.Keyword kw.Print ≡ bracket = ap top h in absurd cc
 bracket_begins_expression (perform (print_names e) is) q h = let no : t.Keyword kw.PrintNames ≡ bracket = ap top h in absurd cc
-bracket_begins_expression (perform (run e) is) q h = (e, mark p.Semicolon ∷ [] ++ items 0 is, append_assoc (spelling 0 e) (mark p.Semicolon ∷ []) (items 0 is))
+bracket_begins_expression (perform (evaluate e) is) q h = (e, mark p.Semicolon ∷ [] ++ items 0 is, append_assoc (spelling 0 e) (mark p.Semicolon ∷ []) (items 0 is))
 
 -- Brackets.
 
@@ -103,7 +103,7 @@ the_65th_bracket_is_refused = (
   replicate 64 bracket,
   refl,
   (
-    alone (run (deep 65)),
+    alone (evaluate (deep 65)),
     opened 0 64,
     65,
     word_ 0 ∷ (replicate 65 round ++ semicolon ∷ []),
@@ -126,7 +126,7 @@ sixty_four_brackets_are_refused_at_their_end = (
   replicate 64 bracket,
   refl,
   (
-    alone (run (deep 64)),
+    alone (evaluate (deep 64)),
     opened 0 64,
     word_ 0 ∷ (replicate 64 round ++ semicolon ∷ []),
     (((deep_fits 64, λ h. cc), tt), refl),
@@ -173,7 +173,7 @@ break_begins_no_script (perform break is) q fits h = true≢false (sym fits.0)
 break_begins_no_script (perform continue is) q fits h = let no : t.Keyword kw.Continue ≡ t.Keyword kw.Break = ap top h in cc
 break_begins_no_script (perform (print es) is) q fits h = let no : t.Keyword kw.Print ≡ t.Keyword kw.Break = ap top h in cc
 break_begins_no_script (perform (print_names e) is) q fits h = let no : t.Keyword kw.PrintNames ≡ t.Keyword kw.Break = ap top h in cc
-break_begins_no_script (perform (run e) is) q fits h =
+break_begins_no_script (perform (evaluate e) is) q fits h =
     break_begins_no_expression true 1 e fits.0.0
     (first_of_text 0 e (mark p.Semicolon ∷ [] ++ items 0 is) (t.Keyword kw.Break) q
     (sym (ap terms (append_assoc (spelling 0 e) (mark p.Semicolon ∷ []) (items 0 is))) ∙ h))
@@ -201,7 +201,7 @@ no_tokens_no_items (perform break is) h = absurd (true≢false (sym (ap is_empty
 no_tokens_no_items (perform continue is) h = absurd (true≢false (sym (ap is_empty h)))
 no_tokens_no_items (perform (print es) is) h = absurd (true≢false (sym (ap is_empty h)))
 no_tokens_no_items (perform (print_names e) is) h = absurd (true≢false (sym (ap is_empty h)))
-no_tokens_no_items (perform (run e) is) h =
+no_tokens_no_items (perform (evaluate e) is) h =
     absurd (some_token 0 e (mark p.Semicolon ∷ [] ++ items 0 is) (sym (ap terms (append_assoc (spelling 0 e) (mark p.Semicolon ∷ []) (items 0 is))) ∙ h))
 
 -- no token at all is an accepted script

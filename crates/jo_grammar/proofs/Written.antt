@@ -2,7 +2,7 @@
 use Rattle.std.proofs.Common.{subst, append_assoc}
 use Rattle.std.specs.Prelude.{ℕ, ◌+◌, List, [], ◌∷◌, ◌++◌, Option, Some, None}
 use Rattle.jo_tree.specs.declared.word.Ident.{Ident}
-use Rattle.jo_tree.specs.Trees.{Tree, number, literal, constant, variable, group, object, cas, member, unary, delete, chain, choose, assign, Props, no_props, prop, Accesses, no_accesses, field, index, Links, no_links, link, Binding, Head, declares, begins, Statement, empty, block, when, either, while, for, break, continue, print, print_names, run, Items, no_items, declare, perform}
+use Rattle.jo_tree.specs.Trees.{Tree, number, literal, constant, variable, group, object, cas, member, unary, delete, chain, choose, assign, Props, no_props, prop, Accesses, no_accesses, field, index, Links, no_links, link, Binding, Head, declares, begins, Statement, empty, block, when, either, while, for, break, continue, print, print_names, evaluate, Items, no_items, declare, perform}
 use Rattle.jo_grammar.specs.declared.terminal.Terminal.{Terminal}
 use Rattle.jo_grammar.specs.declared.terminal.Terminal.TheVariants as t
 use Rattle.jo_grammar.specs.Expressions.{Mark, spelling, props, more_props, accesses, links}
@@ -145,7 +145,7 @@ mutual
   statement_written d continue = none_in _
   statement_written d (print es) = passed (passed (followed (followed (arguments_written (d + 1) es) _) _))
   statement_written d (print_names e) = passed (passed (followed (followed (uses_written (d + 1) e) _) _))
-  statement_written d (run e) = followed (uses_written d e) _
+  statement_written d (evaluate e) = followed (uses_written d e) _
 
   items_written : (d : ℕ) (is : Items) → Written (identifiers_of_items is) (items d is)
   items_written d no_items = at_end

@@ -2,12 +2,12 @@
 --
 -- The whole script is a block, and so are each statement in braces and each `for`. A binding declares its name in the
 -- block in which its `let` stands, and the `let` in the head of a `for` does so in the block of that `for`. A use of a
--- name means the innermost block around it that declares the name, be it before the use or behind it.
+-- name means the innermost block around it that declares the name, be it before the use or after it.
 use Rattle.std.specs.Prelude.{◌≡◌, ℕ, ◌==◌, Bool, false, if◌then◌else◌, List, [], ◌∷◌, ◌++◌, Option, Some, None}
 use Rattle.std.specs.List.{list_any}
 use Rattle.jo_tree.specs.declared.word.Ident.{Ident}
 use Rattle.jo_tree.specs.Blocks.{names_of, declared_in, declared_by}
-use Rattle.jo_tree.specs.Trees.{Tree, number, literal, constant, variable, group, object, cas, member, unary, delete, chain, choose, assign, Props, no_props, prop, Accesses, no_accesses, field, index, Links, no_links, link, Binding, Head, declares, begins, Statement, empty, block, when, either, while, for, break, continue, print, print_names, run, Items, no_items, declare, perform}
+use Rattle.jo_tree.specs.Trees.{Tree, number, literal, constant, variable, group, object, cas, member, unary, delete, chain, choose, assign, Props, no_props, prop, Accesses, no_accesses, field, index, Links, no_links, link, Binding, Head, declares, begins, Statement, empty, block, when, either, while, for, break, continue, print, print_names, evaluate, Items, no_items, declare, perform}
 
 -- ---- faults
 
@@ -24,7 +24,7 @@ Found = ScopeFault × ℕ
 -- ---- uses
 
 -- The identifiers that an expression uses, in order of place: its variables, as values and as targets.
--- The name behind a dot and the key of a property of a literal use none.
+-- The name after a dot and the key of a property of a literal use none.
 abbrev mutual
   pub uses_of : Tree → List Ident
   uses_of (number i) = []
@@ -75,18 +75,18 @@ pub record Scope : Type 0 where
 abbrev pub at_beginning : List ℕ → Scope
 at_beginning names = record { names = names; ended = [] }
 
--- and behind its last binding all have
+-- and after its last binding all have
 abbrev pub at_end : List ℕ → Scope
 at_end names = record { names = names; ended = names }
 
--- behind a binding of the name
-abbrev pub behind : Scope → Ident → Scope
-behind scope x = record scope { ended = x.text.0 ∷ scope.ended }
+-- after a binding of the name
+abbrev pub scope_after : Scope → Ident → Scope
+scope_after scope x = record scope { ended = x.text.0 ∷ scope.ended }
 
--- behind these bindings
-abbrev pub behind_all : Scope → List Binding → Scope
-behind_all scope [] = scope
-behind_all scope (b ∷ bindings) = behind_all (behind scope b.0) bindings
+-- after these bindings
+abbrev pub scope_after_all : Scope → List Binding → Scope
+scope_after_all scope [] = scope
+scope_after_all scope (b ∷ bindings) = scope_after_all (scope_after scope b.0) bindings
 
 abbrev pub is_among : List ℕ → ℕ → Bool
 is_among names name = list_any (λ other. other == name) names
@@ -112,7 +112,7 @@ faults_of_name scope x = if is_among scope.ended x.text.0 then (twice, x.place) 
 abbrev pub faults_of_bindings : Scope → List Scope → List Binding → List Found
 faults_of_bindings scope outer [] = []
 faults_of_bindings scope outer (b ∷ bindings) =
-    faults_of_name scope b.0 ++ (faults_of_uses (scope ∷ outer) (uses_of_optional b.1) ++ faults_of_bindings (behind scope b.0) outer bindings)
+    faults_of_name scope b.0 ++ (faults_of_uses (scope ∷ outer) (uses_of_optional b.1) ++ faults_of_bindings (scope_after scope b.0) outer bindings)
 
 -- of the head of a `for`
 abbrev pub faults_of_head : List Scope → Head → List Found
@@ -135,13 +135,13 @@ abbrev mutual
   faults_of scopes continue = []
   faults_of scopes (print es) = faults_of_uses scopes (uses_of_all es)
   faults_of scopes (print_names e) = faults_of_uses scopes (uses_of e)
-  faults_of scopes (run e) = faults_of_uses scopes (uses_of e)
+  faults_of scopes (evaluate e) = faults_of_uses scopes (uses_of e)
 
   -- of the items of a block, from some place in it on
   pub faults_of_items : Scope → List Scope → Items → List Found
   faults_of_items scope outer no_items = []
   faults_of_items scope outer (declare bindings items) =
-      faults_of_bindings scope outer bindings ++ faults_of_items (behind_all scope bindings) outer items
+      faults_of_bindings scope outer bindings ++ faults_of_items (scope_after_all scope bindings) outer items
   faults_of_items scope outer (perform statement items) =
       faults_of (scope ∷ outer) statement ++ faults_of_items scope outer items
 
@@ -156,8 +156,8 @@ first_of_faults [] = None
 first_of_faults (found ∷ more) = Some found
 
 -- what the script is refused for, where it is refused for its names
-abbrev pub refusal_of : Items → Option Found
-refusal_of script = first_of_faults (faults script)
+abbrev pub first_fault : Items → Option Found
+first_fault script = first_of_faults (faults script)
 
 -- each use means a binding that has ended, and each block declares a name once
 abbrev pub IsDeclared : Items → Type 0

@@ -45,7 +45,7 @@ abbrev mutual
   Fits ins l (choose a b c) = (l ≤ 2) × Fits ins 3 a × Fits ins 1 b × Fits ins 1 c
   Fits ins l (assign o a b) = (l ≤ 1) × IsTarget a × Fits ins 10 a × Fits ins 1 b
 
-  -- a comma before the closing brace stands behind a property, and `__proto__` is no key
+  -- a comma before the closing brace stands after a property, and `__proto__` is no key
   pub FitProps : Props → Bool → Type 0
   FitProps no_props comma = comma ≡ false
   FitProps (prop k e ps) comma = (reads_proto (key_token k) ≡ false) × Fits true 1 e × FitMore ps

@@ -8,13 +8,13 @@ use Rattle.jo_lex.specs.declared.refusal.RefusalKind.TheVariants.{Undeclared, Tw
 use Rattle.jo_tree.specs.Trees.{Items}
 use Rattle.jo_grammar.specs.Declarations.{ScopeFault, undeclared, twice, Found, refusal_of}
 
-abbrev pub kind_of : ScopeFault → RefusalKind
-kind_of undeclared = Undeclared
-kind_of twice = Twice
+abbrev pub name_refusal_kind : ScopeFault → RefusalKind
+name_refusal_kind undeclared = Undeclared
+name_refusal_kind twice = Twice
 
 -- the refusal for a fault, at its place
 abbrev pub refusal_for : Found → Refusal
-refusal_for found = record { kind = kind_of found.0; place = found.1 }
+refusal_for found = record { kind = name_refusal_kind found.0; place = found.1 }
 
 -- want of memory, or the refusal for the first fault of the script
 abbrev pub IsNameFault : Items → ParseFault → Type 0

@@ -233,7 +233,7 @@ ended below c ts = and_then (below true 1 ts) (λ e r. and_then (expect (t.Punct
 unfoldable pub property : Below → Reader (PropKey × Tree)
 property below ts = and_then (key ts) (λ k r. and_then (expect (t.Punct p.Colon) r) (λ _ r. and_then (below true 1 r) (λ e r. Ok ((k, e), r))))
 
--- the rest of an object behind a property
+-- the rest of an object after a property
 unfoldable pub props_from : Below → ℕ → Props → Reader Tree
 props_from below zero found ts = Err (unexpected, ts)
 props_from below (suc n) found ts =

@@ -7,7 +7,7 @@ use Rattle.jo_tree.specs.declared.keyword.Keyword.TheVariants as kw
 use Rattle.jo_grammar.specs.declared.terminal.Terminal.{Terminal}
 use Rattle.jo_grammar.specs.declared.terminal.Terminal.TheVariants as t
 use Rattle.jo_tree.specs.declared.word.Ident.{Ident}
-use Rattle.jo_tree.specs.Trees.{Tree, Binding, Head, declares, begins, Statement, empty, block, when, either, while, for, break, continue, print, print_names, run, Items, no_items, declare, perform}
+use Rattle.jo_tree.specs.Trees.{Tree, Binding, Head, declares, begins, Statement, empty, block, when, either, while, for, break, continue, print, print_names, evaluate, Items, no_items, declare, perform}
 use Rattle.jo_grammar.specs.Refusals.{Fault, unexpected}
 use Rattle.jo_grammar.specs.Read.{Reading, Reader, and_then, peek, next, sees, expect, open_at, enter, take, ended, read}
 
@@ -27,14 +27,14 @@ initial_at room ins ts =
 unfoldable pub binding_at : ℕ → Bool → Reader Binding
 binding_at room ins ts = and_then (ident ts) (λ x r. and_then (initial_at room ins r) (λ v r. Ok ((x, v), r)))
 
--- the rest of a declaration behind a binding
+-- the rest of a declaration after a binding
 unfoldable pub bindings_from : ℕ → Bool → ℕ → List Binding → Reader (List Binding)
 bindings_from room ins zero found ts = Err (unexpected, ts)
 bindings_from room ins (suc n) found ts =
     if sees (t.Punct p.Semicolon) ts then Ok (found, next ts)
     else (if sees (t.Punct p.Comma) ts then and_then (binding_at room ins (next ts)) (λ b r. bindings_from room ins n (found ++ b ∷ []) r) else Err (unexpected, ts))
 
--- a declaration behind its `let`
+-- a declaration after its `let`
 unfoldable pub let_after : ℕ → Bool → Reader (List Binding)
 let_after room ins ts = and_then (binding_at room ins ts) (λ b r. bindings_from room ins (length r) (b ∷ []) r)
 
@@ -53,14 +53,14 @@ unfoldable pub head_at : ℕ → Reader Head
 head_at room ts =
     if sees (t.Keyword kw.Let) ts then and_then (let_after room false (next ts)) (λ bs r. Ok (declares bs, r)) else and_then (optional_ended room false p.Semicolon ts) (λ e r. Ok (begins e, r))
 
--- the rest of the arguments behind one
+-- the rest of the arguments after one
 unfoldable pub arguments_from : ℕ → ℕ → List Tree → Reader (List Tree)
 arguments_from room zero found ts = Err (unexpected, ts)
 arguments_from room (suc n) found ts =
     if sees (t.Punct p.CloseParen) ts then Ok (found, next ts)
     else (if sees (t.Punct p.Comma) ts then and_then (read room true 1 (next ts)) (λ e r. arguments_from room n (found ++ e ∷ []) r) else Err (unexpected, ts))
 
--- arguments behind their bracket
+-- arguments after their bracket
 unfoldable pub arguments_after : ℕ → Reader (List Tree)
 arguments_after room ts =
     if sees (t.Punct p.CloseParen) ts then Ok ([], next ts) else and_then (read room true 1 ts) (λ e r. arguments_from room (length r) (e ∷ []) r)
@@ -71,7 +71,7 @@ abbrev pub Within : Type 0
 Within = Bool → Reader Statement
 
 unfoldable pub run_at : ℕ → Reader Statement
-run_at room ts = and_then (read room true 1 ts) (λ e r. and_then (expect (t.Punct p.Semicolon) r) (λ _ r. Ok (run e, r)))
+run_at room ts = and_then (read room true 1 ts) (λ e r. and_then (expect (t.Punct p.Semicolon) r) (λ _ r. Ok (evaluate e, r)))
 
 unfoldable pub print_after : ℕ → Reader Statement
 print_after room ts =

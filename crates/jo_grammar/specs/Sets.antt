@@ -9,7 +9,7 @@ use Rattle.jo_lex.specs.declared.refusal.Refusal.{Refusal}
 use Rattle.jo_lex.specs.declared.refusal.ParseFault.TheVariants.{Refused}
 use Rattle.jo_lex.specs.declared.refusal.RefusalKind.{RefusalKind}
 use Rattle.jo_lex.specs.declared.refusal.RefusalKind.TheVariants as kind
-use Rattle.jo_lex.specs.Tokens.{State, start, IsRead}
+use Rattle.jo_lex.specs.Tokens.{Progress, start, IsRead}
 use Rattle.jo_lex.specs.Tokens as lexed
 use Rattle.jo_tree.specs.Trees.{Items}
 use Rattle.jo_grammar.specs.Statements.{IsScript}
@@ -18,27 +18,27 @@ use Rattle.jo_grammar.specs.Terminals.{terminals_of}
 use Rattle.jo_grammar.specs.TokenRefusals.{IsFault}
 use Rattle.jo_grammar.specs.Declarations.{Found, faults, first_of_faults}
 use Rattle.jo_grammar.specs.NameRefusals.{refusal_for}
-use Rattle.jo_grammar.specs.Cuts.{Piece, pieces_of, IsOneTooMany}
+use Rattle.jo_grammar.specs.Cuts.{Section, sections_of, IsOneTooMany}
 
 -- ---- tokens
 
 -- the lexer at the front of a script, with the table that the scripts before left
-abbrev pub begun : Table → Piece → State
-begun texts piece = start piece.start texts (chars piece.text)
+abbrev pub begun : Table → Section → Progress
+begun texts section = start section.start texts (chars section.text)
 
 -- the scripts are read into tokens, one after another into one table
-abbrev pub AreRead : Table → List Piece → List (List Token) → Table → Type 0
+abbrev pub AreRead : Table → List Section → List (List Token) → Table → Type 0
 AreRead texts [] [] end = end ≡ texts
-AreRead texts (piece ∷ pieces) (tokens ∷ lists) end =
-    (after : Table) × IsRead (begun texts piece) tokens after × AreRead after pieces lists end
+AreRead texts (section ∷ sections) (tokens ∷ lists) end =
+    (after : Table) × IsRead (begun texts section) tokens after × AreRead after sections lists end
 AreRead texts _ _ end = ⊥
 
 -- the first script that is not read, and its first fault: those before it are read
-abbrev pub IsFirstUnread : Table → List Piece → Refusal → Type 0
+abbrev pub IsFirstUnread : Table → List Section → Refusal → Type 0
 IsFirstUnread texts [] refusal = ⊥
-IsFirstUnread texts (piece ∷ pieces) refusal =
-    ((after : Table) × lexed.IsRefused (begun texts piece) refusal after)
-    ⊎ ((tokens : List Token) × (after : Table) × IsRead (begun texts piece) tokens after × IsFirstUnread after pieces refusal)
+IsFirstUnread texts (section ∷ sections) refusal =
+    ((after : Table) × lexed.IsRefused (begun texts section) refusal after)
+    ⊎ ((tokens : List Token) × (after : Table) × IsRead (begun texts section) tokens after × IsFirstUnread after sections refusal)
 
 -- there is one script, and it has no token but its end
 abbrev pub is_nothing : List (List Token) → Bool
@@ -77,12 +77,12 @@ faults_of_all (script ∷ scripts) = faults script ++ faults_of_all scripts
 -- the bytes are UTF-8, and not too many scripts
 pub record IsCut (bytes : List ℕ) : Type 0 where
   pub utf8 : IsUtf8 bytes
-  pub few : length (pieces_of bytes) ≤ MOST_SCRIPTS
+  pub few : length (sections_of bytes) ≤ MOST_SCRIPTS
 
 -- besides, the scripts are read into these tokens, with this table, and there is something
 pub record IsLexed (bytes : List ℕ) (lists : List (List Token)) (texts : Table) : Type 0 where
   pub cut : IsCut bytes
-  pub read : AreRead [] (pieces_of bytes) lists texts
+  pub read : AreRead [] (sections_of bytes) lists texts
   pub something : is_nothing lists ≡ false
 
 -- besides, the tokens spell these trees
@@ -101,7 +101,7 @@ pub record IsAcceptedSet (bytes : List ℕ) (scripts : List Items) (texts : Tabl
 
 -- at the first fault, over all scripts, of a place that begins no token, of a number, or of a text too many for the table
 abbrev pub IsUnlexed : List ℕ → Refusal → Type 0
-IsUnlexed bytes refusal = IsCut bytes × IsFirstUnread [] (pieces_of bytes) refusal
+IsUnlexed bytes refusal = IsCut bytes × IsFirstUnread [] (sections_of bytes) refusal
 
 -- At the first token, over all scripts, that no script goes on with, or that opens a construct too many; or at the end of a script that is
 -- none as it stands.
@@ -120,13 +120,13 @@ abbrev pub IsRefusalOf : List ℕ → RefusalKind → Refusal → Type 0
 -- at the first byte that belongs to no whole character
 IsRefusalOf bytes kind.NotUtf8 refusal = (IsUtf8 bytes → ⊥) × (refusal.place ≡ utf8_valid_len bytes)
 -- at the eighth separator
-IsRefusalOf bytes kind.TooManyScripts refusal = IsUtf8 bytes × IsOneTooMany (pieces_of bytes) refusal.place
+IsRefusalOf bytes kind.TooManyScripts refusal = IsUtf8 bytes × IsOneTooMany (sections_of bytes) refusal.place
 IsRefusalOf bytes kind.BadToken refusal = IsUnlexed bytes refusal
 IsRefusalOf bytes kind.NumberTooLarge refusal = IsUnlexed bytes refusal
 IsRefusalOf bytes kind.TooManyTexts refusal = IsUnlexed bytes refusal
 -- at 0, where there is no separator and no token
 IsRefusalOf bytes kind.NoScript refusal =
-    IsCut bytes × (lists : List (List Token)) × (texts : Table) × AreRead [] (pieces_of bytes) lists texts
+    IsCut bytes × (lists : List (List Token)) × (texts : Table) × AreRead [] (sections_of bytes) lists texts
     × (is_nothing lists ≡ true) × (refusal.place ≡ 0)
 IsRefusalOf bytes kind.Unexpected refusal = IsUnparsed bytes refusal
 IsRefusalOf bytes kind.NestedTooDeep refusal = IsUnparsed bytes refusal

@@ -2,13 +2,13 @@
 use Rattle.std.specs.Prelude.{ℕ, ◌+◌, ◌≤◌, ◌<◌, ℤ, pos, false, List, [], ◌∷◌, length, Option, Some, None}
 use Rattle.jo_value.specs.declared.limits.TheConstants.{MOST_INPUT, MOST_NUMBER, MOST_OPEN}
 use Rattle.jo_value.specs.declared.value.TextId.{TextId}
-use Rattle.jo_value.specs.Texts.{Table, number_in}
+use Rattle.jo_value.specs.Texts.{Table, id_in}
 use Rattle.jo_tree.specs.declared.word.Name.{Name}
 use Rattle.jo_tree.specs.declared.word.Name.TheVariants as word
 use Rattle.jo_tree.specs.declared.word.PropKey.{PropKey}
 use Rattle.jo_tree.specs.declared.word.PropKey.TheVariants as prop_key
 use Rattle.jo_tree.specs.Words.{keyword_text}
-use Rattle.jo_tree.specs.Trees.{Tree, number, literal, constant, variable, group, object, cas, member, unary, delete, chain, choose, assign, Props, no_props, prop, Accesses, no_accesses, field, index, Links, no_links, link, Binding, Head, declares, begins, Statement, empty, block, when, either, while, for, break, continue, print, print_names, run, Items, no_items, declare, perform}
+use Rattle.jo_tree.specs.Trees.{Tree, number, literal, constant, variable, group, object, cas, member, unary, delete, chain, choose, assign, Props, no_props, prop, Accesses, no_accesses, field, index, Links, no_links, link, Binding, Head, declares, begins, Statement, empty, block, when, either, while, for, break, continue, print, print_names, evaluate, Items, no_items, declare, perform}
 use Rattle.jo_grammar.specs.Statements.{FitItems, items}
 use Rattle.jo_grammar.specs.Refusals.{Within}
 use Rattle.jo_grammar.specs.Declarations.{IsDeclared}
@@ -48,7 +48,7 @@ module _ (texts : Table) where
   -- the table has the text of the word
   abbrev pub IsNamed : Name → Type 0
   IsNamed (word.Ident x) = IsNumbered x.text
-  IsNamed (word.Keyword w) = number_in texts (keyword_text w) < length texts
+  IsNamed (word.Keyword w) = id_in texts (keyword_text w) < length texts
   IsNamed (word.Reserved t) = IsNumbered t
 
   abbrev pub IsKeyed : PropKey → Type 0
@@ -121,7 +121,7 @@ module _ (texts : Table) where
     SuitsStatement continue = Unit {0}
     SuitsStatement (print es) = (length es ≤ MOST_INPUT) × SuitAll es
     SuitsStatement (print_names e) = Suits e
-    SuitsStatement (run e) = Suits e
+    SuitsStatement (evaluate e) = Suits e
 
     pub SuitItems : Items → Type 0
     SuitItems no_items = Unit {0}

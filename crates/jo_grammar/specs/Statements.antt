@@ -3,7 +3,7 @@ use Rattle.std.specs.Prelude.{◌≡◌, ◌≢◌, ℕ, ◌+◌, Bool, true, fa
 use Rattle.jo_lex.specs.declared.punct.Punct.TheVariants as p
 use Rattle.jo_tree.specs.declared.keyword.Keyword.TheVariants as kw
 use Rattle.jo_grammar.specs.declared.terminal.Terminal.TheVariants as t
-use Rattle.jo_tree.specs.Trees.{Tree, Binding, Head, declares, begins, Statement, empty, block, when, either, while, for, break, continue, print, print_names, run, Items, no_items, declare, perform}
+use Rattle.jo_tree.specs.Trees.{Tree, Binding, Head, declares, begins, Statement, empty, block, when, either, while, for, break, continue, print, print_names, evaluate, Items, no_items, declare, perform}
 use Rattle.jo_grammar.specs.Expressions.{Mark, mark, word, plain, Fits, spelling, first}
 
 -- ---- which statements there are
@@ -26,7 +26,7 @@ abbrev pub FitHead : Head → Type 0
 FitHead (declares bs) = FitBindings false true bs
 FitHead (begins e) = FitOptional false e
 
--- no `if` at its end lacks an `else`, so that an `else` behind it is not its own
+-- no `if` at its end lacks an `else`, so that an `else` after it is not its own
 abbrev pub IsClosed : Statement → Type 0
 IsClosed (when c s) = ⊥
 IsClosed (either c a b) = IsClosed b
@@ -47,7 +47,7 @@ abbrev mutual
   FitStatement loops continue = loops ≡ true
   FitStatement loops (print es) = FitAll es
   FitStatement loops (print_names e) = Fits true 1 e
-  FitStatement loops (run e) = Fits true 1 e × (first e ≢ t.Punct p.OpenBrace)
+  FitStatement loops (evaluate e) = Fits true 1 e × (first e ≢ t.Punct p.OpenBrace)
 
   pub FitItems : Bool → Items → Type 0
   FitItems loops no_items = Unit {0}
@@ -109,7 +109,7 @@ abbrev mutual
   statement d continue = word kw.Continue ∷ (mark p.Semicolon ∷ [])
   statement d (print es) = word kw.Print ∷ (bracketed d (arguments (d + 1) es) ++ mark p.Semicolon ∷ [])
   statement d (print_names e) = word kw.PrintNames ∷ (bracketed d (spelling (d + 1) e) ++ mark p.Semicolon ∷ [])
-  statement d (run e) = spelling d e ++ mark p.Semicolon ∷ []
+  statement d (evaluate e) = spelling d e ++ mark p.Semicolon ∷ []
 
   pub items : ℕ → Items → List Mark
   items d no_items = []

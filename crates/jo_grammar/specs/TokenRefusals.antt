@@ -15,13 +15,13 @@ use Rattle.jo_value.specs.declared.limits.TheConstants.{MOST_OPEN}
 abbrev pub start_at : List Token → ℕ → ℕ
 start_at tokens i = option_map_or (λ token. token.start) (slice_get tokens i) 0
 
-abbrev pub kind_of : Fault → RefusalKind
-kind_of unexpected = Unexpected
-kind_of too_deep = NestedTooDeep
+abbrev pub refusal_kind : Fault → RefusalKind
+refusal_kind unexpected = Unexpected
+refusal_kind too_deep = NestedTooDeep
 
 -- the fault, at the place of the token that the rest begins with
 abbrev pub refusal_of : List Token → List Terminal → Fault → List Terminal → Refusal
-refusal_of tokens ts fault rest = record { kind = kind_of fault; place = start_at tokens (length ts - length rest) }
+refusal_of tokens ts fault rest = record { kind = refusal_kind fault; place = start_at tokens (length ts - length rest) }
 
 -- the answer is this tree, unless memory fails
 abbrev pub Gives : {X A : Type 0} → (X → A) → A → Result X ParseFault → Type 0

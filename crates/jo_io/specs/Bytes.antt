@@ -6,11 +6,11 @@ use Rattle.std.specs.Io.KnownBytes.{Consumes, IsAtEnd, Appends}
 abbrev pub ConsumesAtMost : Option (List ℕ) → Option (List ℕ) → ℕ → Type 0
 ConsumesAtMost old new most = (bytes : List ℕ) × Consumes old new bytes × (length bytes ≤ most)
 
--- one read of n bytes into room for so many: they go behind others, and none come only at the end or with no room
+-- one read of n bytes into room for so many: they go after others, and none come only at the end or with no room
 pub record ReadsMore (old new : Option (List ℕ)) (room n : ℕ) (before after : List ℕ) : Type 0 where
   pub bytes : List ℕ
   pub consumed : Consumes old new bytes
-  pub behind : after ≡ before ++ bytes
+  pub appended : after ≡ before ++ bytes
   pub count : length bytes ≡ n
   pub within : n ≤ room
   pub ended : n ≡ 0 → 0 < room → IsAtEnd new

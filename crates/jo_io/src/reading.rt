@@ -54,31 +54,31 @@ pub fn read_all<S: Source>(
         (S.faults source.old) (S.faults source.new) }
 {
     let mut bytes = Vec::new(alloc);
-    let mut piece = [0u8; MOST_READ];
+    let mut buffer = [0u8; MOST_READ];
     while bytes.len() < limit {
         let most = MOST_READ.min(limit - bytes.len());
-        if read_some(source, &mut piece[..most], &mut bytes)? == 0 {
+        if read_some(source, &mut buffer[..most], &mut bytes)? == 0 {
             break;
         }
     }
     Ok(bytes)
 }
 
-// One read, whose bytes go behind the others: how many they are.
+// One read, whose bytes go after the others: how many they are.
 fn read_some<S: Source>(
     source: &mut S,
-    piece: &mut [u8],
+    buffer: &mut [u8],
     bytes: &mut Vec<u8>,
 ) -> Result<usize, ReadError>
     ensures read { IfOk result (λ n. ReadsMore (S.left source.old) (S.left source.new)
-        (length piece.old) n bytes.old.items bytes.new.items) }
-    ensures bound { ConsumesAtMost (S.left source.old) (S.left source.new) (length piece.old) }
+        (length buffer.old) n bytes.old.items bytes.new.items) }
+    ensures bound { ConsumesAtMost (S.left source.old) (S.left source.new) (length buffer.old) }
     ensures failed { IsErrOf result ReadError.Failed
         → Keeps (S.left source.old) (S.left source.new) }
     ensures cause { Counts (IsErrOf result ReadError.Failed)
         (S.faults source.old) (S.faults source.new) }
 {
-    let count = source.read(piece)?;
-    bytes.extend_from_slice(&piece[..count])?;
+    let count = source.read(buffer)?;
+    bytes.extend_from_slice(&buffer[..count])?;
     Ok(count)
 }

@@ -12,7 +12,7 @@ use Rattle.jo_lex.specs.declared.token.TokenKind.{TokenKind}
 use Rattle.jo_lex.specs.Characters.{Characters, size, is_blank, is_in_line, is_digit, is_word_part, is_word_start, is_spoiler, begins_with, drop_while}
 use Rattle.jo_lex.specs.Punctuators.{Entry, fits, longer, longest, table, punctuator_of}
 use Rattle.jo_lex.specs.Pieces.{word, text, number, Piece, gap, lexeme, fault, after_close, closed, comment, word_piece, is_escapable, with_front, quoted, text_piece, decimal, judged, number_piece, accepted, punctuator_piece, token_piece, piece}
-use Rattle.jo_lex.specs.Tokens.{State, Next, ended, refused, onward, kind_of, with_token, taken, next_of, next, going_on, reached, last}
+use Rattle.jo_lex.specs.Tokens.{Progress, Advance, ended, refused, onward, token_kind, with_token, taken, next_of, next, going_on, reached, last}
 use Rattle.jo_lex.proofs.Texts.{encode_nonempty}
 
 size-cons : (c : ℕ) (cs : Characters) → size (c ∷ cs) ≡ length (encode_utf8 c) + size cs
@@ -31,7 +31,7 @@ size-drop_while : (p : ℕ → Bool) (cs : Characters) → size (drop_while p cs
 size-drop_while p [] = omega arith
 size-drop_while p (c ∷ cs) = drop_while-step p c cs (p c) (size-drop_while p cs)
 
--- what is left behind the piece has at most n bytes
+-- what is left after the piece has at most n bytes
 abbrev Leaves : ℕ → Piece → Type 0
 Leaves n (gap rest) = size rest ≤ n
 Leaves n (lexeme l rest) = size rest ≤ n
@@ -62,7 +62,7 @@ closed-leaves : (n : ℕ) (found : Option Characters) → IfSome found (λ rest.
 closed-leaves n None h = tt
 closed-leaves n (Some rest) h = h
 
--- what is left behind a literal
+-- what is left after a literal
 abbrev Ends : ℕ → Option (List ℕ × Characters) → Type 0
 Ends n None = Unit {0}
 Ends n (Some p) = size p.1 ≤ n
@@ -190,42 +190,42 @@ piece-leaves c cs =
 
 -- ---- from state to state
 
-abbrev GoesOnBelow : ℕ → Next → Type 0
+abbrev GoesOnBelow : ℕ → Advance → Type 0
 GoesOnBelow n ended = Unit {0}
 GoesOnBelow n (refused k) = Unit {0}
 GoesOnBelow n (onward t) = size t.rest ≤ n
 
-token-below : (n : ℕ) (s : State) (rest : Characters) (found : Option (TokenKind × Table)) → size rest ≤ n → GoesOnBelow n (with_token s rest found)
+token-below : (n : ℕ) (s : Progress) (rest : Characters) (found : Option (TokenKind × Table)) → size rest ≤ n → GoesOnBelow n (with_token s rest found)
 token-below n s rest None h = tt
 token-below n s rest (Some p) h = h
 
-taken-below : (n : ℕ) (s : State) (p : Piece) → Leaves n p → GoesOnBelow n (taken s p)
+taken-below : (n : ℕ) (s : Progress) (p : Piece) → Leaves n p → GoesOnBelow n (taken s p)
 taken-below n s (gap rest) h = h
-taken-below n s (lexeme l rest) h = token-below n s rest (kind_of s.table l) h
+taken-below n s (lexeme l rest) h = token-below n s rest (token_kind s.table l) h
 taken-below n s (fault k) h = tt
 
-next-below : (n : ℕ) (s : State) (cs : Characters) (t : State) → size cs ≤ suc n → next_of s cs ≡ onward t → size t.rest ≤ n
+next-below : (n : ℕ) (s : Progress) (cs : Characters) (t : Progress) → size cs ≤ suc n → next_of s cs ≡ onward t → size t.rest ≤ n
 next-below n s [] t le e = cc
 next-below n s (c ∷ cs) t le e =
     let below : GoesOnBelow (size cs) (next_of s (c ∷ cs)) = taken-below (size cs) s (piece c cs) (piece-leaves c cs) in
     let h : size t.rest ≤ size cs = rw e at below in
     omega (arith, h, size-cons c cs, encode_nonempty c)
 
-none-left : (s : State) (cs : Characters) (t : State) → size cs ≤ 0 → next_of s cs ≡ onward t → ⊥
+none-left : (s : Progress) (cs : Characters) (t : Progress) → size cs ≤ 0 → next_of s cs ≡ onward t → ⊥
 none-left s [] t le e = cc
 none-left s (c ∷ cs) t le e = absurd (omega (arith, size-cons c cs, encode_nonempty c))
 
-stop-step : (n : ℕ) (s t : State) (x : Next) → ((v : State) → next s ≡ onward v → next (reached n v) ≡ onward t → ⊥) → next s ≡ x → next (reached (suc n) s) ≡ onward t → ⊥
+stop-step : (n : ℕ) (s t : Progress) (x : Advance) → ((v : Progress) → next s ≡ onward v → next (reached n v) ≡ onward t → ⊥) → next s ≡ x → next (reached (suc n) s) ≡ onward t → ⊥
 unfolding reached
 stop-step n s t ended ih e f = let same : next s ≡ onward t = ap next (sym (ap (going_on (reached n) s) e)) ∙ f in let clash : ended ≡ onward t = sym e ∙ same in cc
 stop-step n s t (refused k) ih e f = let same : next s ≡ onward t = ap next (sym (ap (going_on (reached n) s) e)) ∙ f in let clash : refused k ≡ onward t = sym e ∙ same in cc
 stop-step n s t (onward v) ih e f = ih v e (ap next (sym (ap (going_on (reached n) s) e)) ∙ f)
 
-reached-stops : (n : ℕ) (s t : State) → size s.rest ≤ n → next (reached n s) ≡ onward t → ⊥
+reached-stops : (n : ℕ) (s t : Progress) → size s.rest ≤ n → next (reached n s) ≡ onward t → ⊥
 unfolding reached
 reached-stops zero s t le e = none-left s s.rest t le e
 reached-stops (suc n) s t le e = stop-step n s t (next s) (λ v g f. reached-stops n v t (next-below n s s.rest v le g) f) refl e
 
 -- from the last state nothing goes on
-pub last-stops : (s t : State) → next (last s) ≡ onward t → ⊥
+pub last-stops : (s t : Progress) → next (last s) ≡ onward t → ⊥
 last-stops s t e = reached-stops (size s.rest) s t (omega arith) e

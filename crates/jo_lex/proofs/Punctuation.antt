@@ -40,7 +40,7 @@ fits-no p cs e = rw e
 pub fits-nowhere : (p s : List ℕ) → is_ascii p ≡ true → IsUtf8 s → ((rest : List ℕ) → s ≢ p ++ rest) → fits p (chars s) ≡ false
 fits-nowhere p s a u none = fits-no p (chars s) (starts_with-no p s a u none)
 
--- what is left behind it
+-- what is left after it
 pub drop-front : (p cs rest : List ℕ) → cs ≡ p ++ rest → drop (length p) cs ≡ rest
 drop-front p cs rest e = ap (drop (length p)) e ∙ drop_at p rest (length p) refl
 

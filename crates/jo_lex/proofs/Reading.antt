@@ -11,46 +11,46 @@ use Rattle.jo_lex.specs.declared.refusal.ParseFault.{ParseFault}
 use Rattle.jo_lex.specs.declared.refusal.ParseFault.TheVariants.{Memory, Refused}
 use Rattle.jo_lex.specs.declared.refusal.RefusalKind.{RefusalKind}
 use Rattle.jo_lex.specs.Steps.{at, FailsAt}
-use Rattle.jo_lex.specs.Tokens.{State, Next, ended, refused, onward, kind_of, place_after, with_token, taken, next_of, next, going_on, reached, start, last, end_token, IsRead, Fails}
+use Rattle.jo_lex.specs.Tokens.{Progress, Advance, ended, refused, onward, token_kind, place_after, with_token, taken, next_of, next, going_on, reached, start, last, end_token, IsRead, Fails}
 
 pub size-chars : (bs : List ℕ) → IsUtf8 bs → size (chars bs) ≡ length bs
 size-chars bs u = ap length (encodes-chars bs u)
 
 -- nothing goes on from the state
-abbrev pub Stays : State → Type 0
-Stays s = (go : State → State) → going_on go s (next s) ≡ s
+abbrev pub Stays : Progress → Type 0
+Stays s = (go : Progress → Progress) → going_on go s (next s) ≡ s
 
-pub stays-ended : (s : State) → next s ≡ ended → Stays s
+pub stays-ended : (s : Progress) → next s ≡ ended → Stays s
 stays-ended s e go = ap (going_on go s) e
 
-pub stays-refused : (s : State) (k : RefusalKind) → next s ≡ refused k → Stays s
+pub stays-refused : (s : Progress) (k : RefusalKind) → next s ≡ refused k → Stays s
 stays-refused s k e go = ap (going_on go s) e
 
-pub reached-stays : (n : ℕ) (s : State) → Stays s → reached n s ≡ s
+pub reached-stays : (n : ℕ) (s : Progress) → Stays s → reached n s ≡ s
 unfolding reached
 reached-stays zero s h = refl
 reached-stays (suc n) s h = h (reached n)
 
-onward-step : (n : ℕ) (s t u : State) (x : Next) → ((v : State) → reached n v ≡ t → reached (suc n) v ≡ u) → next s ≡ x → reached (suc n) s ≡ t → next t ≡ onward u → reached (suc (suc n)) s ≡ u
+onward-step : (n : ℕ) (s t u : Progress) (x : Advance) → ((v : Progress) → reached n v ≡ t → reached (suc n) v ≡ u) → next s ≡ x → reached (suc n) s ≡ t → next t ≡ onward u → reached (suc (suc n)) s ≡ u
 unfolding reached
 onward-step n s t u ended ih e r f = let same : s ≡ t = sym (ap (going_on (reached n) s) e) ∙ r in let clash : ended ≡ onward u = sym e ∙ ap next same ∙ f in cc
 onward-step n s t u (refused k) ih e r f = let same : s ≡ t = sym (ap (going_on (reached n) s) e) ∙ r in let clash : refused k ≡ onward u = sym e ∙ ap next same ∙ f in cc
 onward-step n s t u (onward v) ih e r f = ap (going_on (reached (suc n)) s) e ∙ ih v (sym (ap (going_on (reached n) s) e) ∙ r)
 
 -- one piece more
-pub reached-onward : (n : ℕ) (s t u : State) → reached n s ≡ t → next t ≡ onward u → reached (suc n) s ≡ u
+pub reached-onward : (n : ℕ) (s t u : Progress) → reached n s ≡ t → next t ≡ onward u → reached (suc n) s ≡ u
 unfolding reached
 reached-onward zero s t u r f = ap (going_on (reached zero) s) (ap next r ∙ f)
 reached-onward (suc n) s t u r f = onward-step n s t u (next s) (λ v q. reached-onward n v t u q f) refl r f
 
-last-step : (n m : ℕ) (s t : State) (x : Next) → ((v : State) → reached n v ≡ t → reached m v ≡ t) → next s ≡ x → reached (suc n) s ≡ t → reached (suc m) s ≡ t
+last-step : (n m : ℕ) (s t : Progress) (x : Advance) → ((v : Progress) → reached n v ≡ t → reached m v ≡ t) → next s ≡ x → reached (suc n) s ≡ t → reached (suc m) s ≡ t
 unfolding reached
 last-step n m s t ended ih e r = ap (going_on (reached m) s) e ∙ sym (ap (going_on (reached n) s) e) ∙ r
 last-step n m s t (refused k) ih e r = ap (going_on (reached m) s) e ∙ sym (ap (going_on (reached n) s) e) ∙ r
 last-step n m s t (onward v) ih e r = ap (going_on (reached m) s) e ∙ ih v (sym (ap (going_on (reached n) s) e) ∙ r)
 
 -- a state from which nothing goes on is the last, however many pieces are allowed
-pub reached-last : (n m : ℕ) (s t : State) → n ≤ m → reached n s ≡ t → Stays t → reached m s ≡ t
+pub reached-last : (n m : ℕ) (s t : Progress) → n ≤ m → reached n s ≡ t → Stays t → reached m s ≡ t
 unfolding reached
 reached-last zero m s t le r h = ap (reached m) r ∙ reached-stays m t h
 reached-last (suc n) zero s t le r h = absurd (omega arith)
@@ -67,7 +67,7 @@ module _ (place : ℕ) (text rest : List ℕ) (tokens : List Token) (table : Tab
       let s = at place text tokens table in
       ap (next_of s) split ∙ ap (taken s) e ∙ ap (λ p. onward (record s { place = p; rest = chars rest })) place-is
 
-  pub next-token : (l : Lexeme) (kind : TokenKind) (table' : Table) (tokens' : List Token) → piece first cs ≡ lexeme l (chars rest) → kind_of table l ≡ Some (kind, table')
+  pub next-token : (l : Lexeme) (kind : TokenKind) (table' : Table) (tokens' : List Token) → piece first cs ≡ lexeme l (chars rest) → token_kind table l ≡ Some (kind, table')
       → tokens' ≡ tokens ++ record { kind = kind; start = place; end = place + (length text - length rest) } ∷ []
       → next (at place text tokens table) ≡ onward (at (place + (length text - length rest)) rest tokens' table')
   next-token l kind table' tokens' e k t =
@@ -85,17 +85,17 @@ reached-start base text tokens table e =
     ap (λ p. record { place = p; rest = chars text; tokens = []; table = table }) here ∙ ap (λ ts. at (base + (length text - length text)) text ts table) (sym e)
 
 -- one piece more, by the places of the code
-pub reached-more : (n base : ℕ) (text rest left : List ℕ) (s : State) (tokens tokens' : List Token) (table table' : Table) → reached n s ≡ at (base + (length text - length rest)) rest tokens table
+pub reached-more : (n base : ℕ) (text rest left : List ℕ) (s : Progress) (tokens tokens' : List Token) (table table' : Table) → reached n s ≡ at (base + (length text - length rest)) rest tokens table
     → next (at (base + (length text - length rest)) rest tokens table) ≡ onward (at (base + (length text - length rest) + (length rest - length left)) left tokens' table')
     → length left < length rest → length rest ≤ length text → reached (suc n) s ≡ at (base + (length text - length left)) left tokens' table'
 reached-more n base text rest left s tokens tokens' table table' r e below within =
     let place : base + (length text - length rest) + (length rest - length left) ≡ base + (length text - length left) = omega arith in
     reached-onward n s _ _ r e ∙ ap (λ p. at p left tokens' table') place
 
-pub last-is : (n : ℕ) (s t : State) → n ≤ size s.rest → reached n s ≡ t → Stays t → last s ≡ t
+pub last-is : (n : ℕ) (s t : Progress) → n ≤ size s.rest → reached n s ≡ t → Stays t → last s ≡ t
 last-is n s t le r h = reached-last n (size s.rest) s t le r h
 
-pub fails : (n : ℕ) (s t : State) (fault : ParseFault) (table : Table) → n ≤ size s.rest → reached n s ≡ t → FailsAt t fault → table ≡ t.table → Fails s table fault
+pub fails : (n : ℕ) (s t : Progress) (fault : ParseFault) (table : Table) → n ≤ size s.rest → reached n s ≡ t → FailsAt t fault → table ≡ t.table → Fails s table fault
 fails n s t Memory table le r f e = (n, e ∙ ap (λ q. q.table) (sym r))
 fails n s t (Refused refusal) table le r f e =
     let is : last s ≡ t = last-is n s t le r (stays-refused t refusal.kind f.0) in
@@ -105,7 +105,7 @@ fails n s t (Refused refusal) table le r f e =
       table_is = e ∙ ap (λ q. q.table) (sym is);
     }
 
-pub reads : (n : ℕ) (s t : State) (tokens : List Token) (table : Table) → n ≤ size s.rest → reached n s ≡ t → t.rest ≡ [] → tokens ≡ t.tokens ++ end_token t.place ∷ [] → table ≡ t.table → IsRead s tokens table
+pub reads : (n : ℕ) (s t : Progress) (tokens : List Token) (table : Table) → n ≤ size s.rest → reached n s ≡ t → t.rest ≡ [] → tokens ≡ t.tokens ++ end_token t.place ∷ [] → table ≡ t.table → IsRead s tokens table
 reads n s t tokens table le r none ts e =
     let ends : next t ≡ ended = ap (next_of t) none in
     let is : last s ≡ t = last-is n s t le r (stays-ended t ends) in

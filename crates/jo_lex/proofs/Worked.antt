@@ -35,7 +35,7 @@ before_a_name : punctuator_of (codes "?.x") ≡ Some (codes "?.", None)
 unfolding punctuator_of table
 before_a_name = refl
 
--- behind a `/`: to before the end of the line, to the first `*/`, and the star of the opening does not close it
+-- after a `/`: to before the end of the line, to the first `*/`, and the star of the opening does not close it
 to_the_line_end : comment (47 ∷ 97 ∷ 10 ∷ 98 ∷ []) ≡ Some (gap (10 ∷ 98 ∷ []))
 to_the_line_end = refl
 
@@ -48,7 +48,7 @@ one_star = refl
 a_quotient : comment (codes "2") ≡ None
 a_quotient = refl
 
--- what stands behind a `'`: the other quote stands for itself, and so does an escaped one
+-- what stands after a `'`: the other quote stands for itself, and so does an escaped one
 quotes : quoted false 39 (codes "a\\'\"b'c") ≡ Some (codes "a'\"b", codes "c")
 unfolding lib.Utf8.encode
 quotes = refl

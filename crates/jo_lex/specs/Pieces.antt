@@ -34,7 +34,7 @@ abbrev pub closed : Option Characters → Piece
 closed None = fault BadToken
 closed (Some rest) = gap rest
 
--- the comment that goes on so behind a `/`: to before the end of its line behind another `/`, and to the first `*/` behind a `*`
+-- the comment that goes on so after a `/`: to before the end of its line after another `/`, and to the first `*/` after a `*`
 abbrev pub comment : Characters → Option Piece
 comment [] = None
 comment (c ∷ cs) = if c == 47 then Some (gap (drop_while is_in_line cs)) else (if c == 42 then Some (closed (after_close cs)) else None)
@@ -58,8 +58,8 @@ abbrev pub with_front : List ℕ → Option (List ℕ × Characters) → Option 
 with_front bytes None = None
 with_front bytes (Some p) = Some (bytes ++ p.0, p.1)
 
--- Behind the opening quote: the bytes that the literal stands for, and what is left after the closing quote. A character
--- stands for itself; behind a backslash it has to be one of the three.
+-- After the opening quote: the bytes that the literal stands for, and what is left after the closing quote. A character
+-- stands for itself; after a backslash it has to be one of the three.
 abbrev pub quoted : Bool → ℕ → Characters → Option (List ℕ × Characters)
 quoted escaped quote [] = None
 quoted true quote (c ∷ cs) = if is_escapable c then with_front (encode_utf8 c) (quoted false quote cs) else None
@@ -76,7 +76,7 @@ text_piece (Some p) = limited text p.0 p.1
 
 -- ---- numbers
 
--- the number whose decimal digits are these, behind the digits of n
+-- the number whose decimal digits are these, after the digits of n
 abbrev pub decimal : ℕ → Characters → ℕ
 decimal n digits = fold (λ m d. m * 10 + (d - 48)) n digits
 
@@ -90,7 +90,7 @@ number_piece c cs = if c == 48 then judged 0 cs else judged (decimal (c - 48) (t
 
 -- ---- punctuators
 
--- a punctuator with a value, and what is left behind it
+-- a punctuator with a value, and what is left after it
 abbrev pub accepted : Option Punct → Characters → Piece
 accepted None rest = fault BadToken
 accepted (Some punct) rest = lexeme (punctuator punct) rest

@@ -10,7 +10,7 @@ use Rattle.jo_lex.specs.declared.refusal.RefusalKind.TheVariants.{TooManyTexts}
 use Rattle.jo_lex.specs.declared.refusal.ParseFault.{ParseFault}
 use Rattle.jo_lex.specs.declared.refusal.ParseFault.TheVariants.{Memory, Refused}
 use Rattle.jo_lex.specs.Pieces.{Lexeme}
-use Rattle.jo_lex.specs.Tokens.{State, refused, next, kind_of}
+use Rattle.jo_lex.specs.Tokens.{Progress, refused, next, token_kind}
 
 -- the fault of an interning, at its place
 abbrev pub fault_at : ℕ → InternFault → ParseFault
@@ -18,19 +18,19 @@ fault_at place intern.Memory = Memory
 fault_at place intern.TooManyTexts = Refused (record { kind = TooManyTexts; place = place })
 
 -- the state in which this text is left to read
-abbrev pub at : ℕ → List ℕ → List Token → Table → State
+abbrev pub at : ℕ → List ℕ → List Token → Table → Progress
 at place text tokens table = record { place = place; rest = chars text; tokens = tokens; table = table }
 
 -- the token of a lexeme goes last, and its text is in the table
 abbrev pub AddsToken : Lexeme → ℕ → ℕ → List Token → List Token → Table → Table → Type 0
-AddsToken lexeme start end old new texts table = (kind : TokenKind) × (kind_of texts lexeme ≡ Some (kind, table)) × (new ≡ old ++ record { kind = kind; start = start; end = end } ∷ [])
+AddsToken lexeme start end old new texts table = (kind : TokenKind) × (token_kind texts lexeme ≡ Some (kind, table)) × (new ≡ old ++ record { kind = kind; start = start; end = end } ∷ [])
 
 -- no memory, or a text too many
 abbrev pub IsTooMany : Lexeme → ℕ → Table → ParseFault → Type 0
 IsTooMany lexeme place texts Memory = Unit {0}
-IsTooMany lexeme place texts (Refused r) = (kind_of texts lexeme ≡ None) × (r ≡ record { kind = TooManyTexts; place = place })
+IsTooMany lexeme place texts (Refused r) = (token_kind texts lexeme ≡ None) × (r ≡ record { kind = TooManyTexts; place = place })
 
 -- no memory, or what is wrong with the next piece
-abbrev pub FailsAt : State → ParseFault → Type 0
+abbrev pub FailsAt : Progress → ParseFault → Type 0
 FailsAt s Memory = Unit {0}
 FailsAt s (Refused r) = (next s ≡ refused r.kind) × (r.place ≡ s.place)

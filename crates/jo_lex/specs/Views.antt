@@ -56,7 +56,7 @@ abbrev pub may_begin : ℕ → List ℕ → Bool
 may_begin c [] = true
 may_begin c (d ∷ ds) = d == c
 
--- the entry among the others, behind those that are longer
+-- the entry among the others, after those that are longer
 abbrev pub put : Entry → List Entry → List Entry
 put p [] = p ∷ []
 put p (q ∷ qs) = if nat_lt (length p.0) (length q.0) then q ∷ put p qs else p ∷ q ∷ qs
@@ -70,7 +70,7 @@ longer_first (p ∷ ps) = put p (longer_first ps)
 unfoldable pub entries_for : ℕ → List Entry
 entries_for c = longer_first (filter (λ p. may_begin c p.0) table)
 
--- what a character does in a text literal, behind a backslash or not
+-- what a character does in a text literal, after a backslash or not
 abbrev pub stroke_of : Bool → ℕ → ℕ → Stroke
 stroke_of true quote c = if is_escapable c then Take else Refuse
 stroke_of false quote c = if c == quote then Close else (if c == 92 then Escape else (if c == 10 || c == 13 then Refuse else Take))

@@ -90,13 +90,13 @@ pub(crate) fn is_in(class: Class, c: char) -> bool
     }
 }
 
-/// The first character of a text, and what follows it.
-pub(crate) fn first_of(text: &str) -> Option<(char, &str)>
-    ensures { MatchOption result ((chars text.now ≡ []) × (length text.now ≡ 0))
-        (λ (c, rest). (chars text.now ≡ c ∷ chars rest.now) × (length rest.now < length text.now)
-        × (text.now ≡ encode_utf8 c ++ rest.now)) }
+/// The first character of a input, and what follows it.
+pub(crate) fn first_of(input: &str) -> Option<(char, &str)>
+    ensures { MatchOption result ((chars input.now ≡ []) × (length input.now ≡ 0))
+        (λ (c, rest). (chars input.now ≡ c ∷ chars rest.now) × (length rest.now < length input.now)
+        × (input.now ≡ encode_utf8 c ++ rest.now)) }
 {
-    let mut chars = text.chars();
+    let mut chars = input.chars();
     match chars.next() {
         Some(c) => Some((c, chars.as_str())),
         None => None,
@@ -104,21 +104,21 @@ pub(crate) fn first_of(text: &str) -> Option<(char, &str)>
 }
 
 /// Whether a text begins with a character of the class.
-pub(crate) fn begins(class: Class, text: &str) -> bool
-    ensures { result ≡ spec.begins_with (test_of class) (chars text.now) }
+pub(crate) fn begins(class: Class, input: &str) -> bool
+    ensures { result ≡ spec.begins_with (test_of class) (chars input.now) }
 {
-    match first_of(text) {
+    match first_of(input) {
         Some((c, _)) => is_in(class, c),
         None => false,
     }
 }
 
 /// What follows the characters of the class that a text begins with.
-pub(crate) fn past(class: Class, text: &str) -> &str
-    ensures rest { chars result.now ≡ spec.drop_while (test_of class) (chars text.now) }
-    ensures suffix { EndsWith text.now result.now }
+pub(crate) fn past(class: Class, input: &str) -> &str
+    ensures rest { chars result.now ≡ spec.drop_while (test_of class) (chars input.now) }
+    ensures suffix { EndsWith input.now result.now }
 {
-    let mut rest = text;
+    let mut rest = input;
     while let Some((c, after)) = first_of(rest) {
         if !is_in(class, c) {
             return rest;

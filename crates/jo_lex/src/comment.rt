@@ -23,11 +23,11 @@ fn past_close(c: char, after: &str) -> Option<&str>
 }
 
 // What follows the first `*/`.
-fn after_close(text: &str) -> Option<&str>
-    ensures rest { option_map (λ rest. chars rest.now) result ≡ spec.after_close (chars text.now) }
-    ensures within { IfSome result (λ rest. length rest.now ≤ length text.now) }
+fn after_close(input: &str) -> Option<&str>
+    ensures rest { option_map (λ rest. chars rest.now) result ≡ spec.after_close (chars input.now) }
+    ensures within { IfSome result (λ rest. length rest.now ≤ length input.now) }
 {
-    let mut rest = text;
+    let mut rest = input;
     while let Some((c, after)) = first_of(rest) {
         if let Some(end) = past_close(c, after) {
             return Some(end);
@@ -37,12 +37,12 @@ fn after_close(text: &str) -> Option<&str>
     None
 }
 
-// The comment that goes on so behind a `/`.
-pub(crate) fn comment(text: &str) -> Option<Piece<'_>>
-    ensures value { option_map piece_of result ≡ spec.comment (chars text.now) }
-    ensures within { IfSome result (IsWithin (length text.now)) }
+// The comment that goes on so after a `/`.
+pub(crate) fn comment(input: &str) -> Option<Piece<'_>>
+    ensures value { option_map piece_of result ≡ spec.comment (chars input.now) }
+    ensures within { IfSome result (IsWithin (length input.now)) }
 {
-    match first_of(text) {
+    match first_of(input) {
         Some(('/', after)) => Some(Piece::Gap(past(Class::InLine, after))),
         Some(('*', after)) => Some(match after_close(after) {
             Some(rest) => Piece::Gap(rest),

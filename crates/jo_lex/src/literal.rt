@@ -54,17 +54,17 @@ fn stroke_of(escaped: bool, quote: char, c: char) -> Stroke
     }
 }
 
-// What the literal with this quote stands for, and what is left behind its closing quote.
-fn quoted(alloc: Global, quote: char, text: &str) -> Result<Option<(String, &str)>, AllocError>
+// What the literal with this quote stands for, and what is left after its closing quote.
+fn quoted(alloc: Global, quote: char, input: &str) -> Result<Option<(String, &str)>, AllocError>
     ensures value { IfOk result (λ found.
         option_map (λ (string, rest). (string_bytes string, chars rest.now)) found
-        ≡ spec.quoted false quote (chars text.now)) }
+        ≡ spec.quoted false quote (chars input.now)) }
     ensures within { IfOk result (λ found. IfSome found (λ (string, rest).
-        length rest.now ≤ length text.now)) }
+        length rest.now ≤ length input.now)) }
 {
     let mut string = String::new(alloc);
     let mut escaped = false;
-    let mut rest = text;
+    let mut rest = input;
     while let Some((c, after)) = first_of(rest) {
         match stroke_of(escaped, quote, c) {
             Stroke::Close => return Ok(Some((string, after))),
@@ -80,13 +80,13 @@ fn quoted(alloc: Global, quote: char, text: &str) -> Result<Option<(String, &str
     Ok(None)
 }
 
-// The text literal with this quote, behind it.
-pub(crate) fn text_literal(alloc: Global, quote: char, text: &str) -> Result<Piece<'_>, AllocError>
+// The text literal with this quote, after it.
+pub(crate) fn text_literal(alloc: Global, quote: char, input: &str) -> Result<Piece<'_>, AllocError>
     ensures value { IfOk result (λ found.
-        piece_of found ≡ spec.text_piece (spec.quoted false quote (chars text.now))) }
-    ensures within { IfOk result (IsWithin (length text.now)) }
+        piece_of found ≡ spec.text_piece (spec.quoted false quote (chars input.now))) }
+    ensures within { IfOk result (IsWithin (length input.now)) }
 {
-    match quoted(alloc, quote, text)? {
+    match quoted(alloc, quote, input)? {
         Some((string, rest)) if string.len() <= MOST_TEXT_BYTES => {
             Ok(Piece::Token(Lexeme::Text(string), rest))
         }
@@ -94,7 +94,7 @@ pub(crate) fn text_literal(alloc: Global, quote: char, text: &str) -> Result<Pie
     }
 }
 
-// The number of these digits behind those of the first, or one more than the largest.
+// The number of these digits after those of the first, or one more than the largest.
 fn decimal(first: u64, digits: &str) -> u64
     requires { first ≤ MOST_NUMBER + 1 }
     ensures { result ≡ min (spec.decimal first (chars digits.now)) (MOST_NUMBER + 1) }

@@ -31,22 +31,22 @@ pub(crate) enum Piece<'a> {
 }
 
 // What stands before the end of a text.
-pub(crate) fn front<'a>(text: &'a str, end: &str) -> &'a str
-    requires { EndsWith text.now end.now }
-    ensures { text.now ≡ result.now ++ end.now }
+pub(crate) fn front<'a>(input: &'a str, end: &str) -> &'a str
+    requires { EndsWith input.now end.now }
+    ensures { input.now ≡ result.now ++ end.now }
 {
-    let (front, _) = text.split_at(text.len() - end.len());
+    let (front, _) = input.split_at(input.len() - end.len());
     front
 }
 
 // The word that begins with this character.
-fn word<'a>(text: &'a str, first: char, after: &'a str) -> Piece<'a>
-    requires { text.now ≡ encode_utf8 first ++ after.now }
+fn word<'a>(input: &'a str, first: char, after: &'a str) -> Piece<'a>
+    requires { input.now ≡ encode_utf8 first ++ after.now }
     ensures value { piece_of result ≡ spec.word_piece first (chars after.now) }
     ensures within { IsWithin (length after.now) result }
 {
     let rest = past(Class::WordPart, after);
-    let word = front(text, rest);
+    let word = front(input, rest);
     if word.len() > MOST_TEXT_BYTES {
         return Piece::Fault(RefusalKind::BadToken);
     }
@@ -56,19 +56,19 @@ fn word<'a>(text: &'a str, first: char, after: &'a str) -> Piece<'a>
 // The token that begins with this character.
 fn token<'a>(
     alloc: Global,
-    text: &'a str,
+    input: &'a str,
     first: char,
     after: &'a str,
 ) -> Result<Piece<'a>, AllocError>
-    requires chars { chars text.now ≡ first ∷ chars after.now }
-    requires bytes { text.now ≡ encode_utf8 first ++ after.now }
-    requires shorter { length after.now < length text.now }
+    requires chars { chars input.now ≡ first ∷ chars after.now }
+    requires bytes { input.now ≡ encode_utf8 first ++ after.now }
+    requires shorter { length after.now < length input.now }
     ensures value { IfOk result (λ found.
         piece_of found ≡ spec.token_piece first (chars after.now)) }
-    ensures within { IfOk result (IsWithin (length text.now - 1)) }
+    ensures within { IfOk result (IsWithin (length input.now - 1)) }
 {
     if is_in(Class::WordStart, first) {
-        return Ok(word(text, first, after));
+        return Ok(word(input, first, after));
     }
     if is_in(Class::Digit, first) {
         return Ok(number(first, after));
@@ -76,22 +76,22 @@ fn token<'a>(
     if first == '"' || first == '\'' {
         return text_literal(alloc, first, after);
     }
-    Ok(operator(text, first))
+    Ok(operator(input, first))
 }
 
 /// The piece that begins with this character.
 #[tactic(auto, unfolding(crate::specs::Pieces::piece))]
 pub(crate) fn piece_at<'a>(
     alloc: Global,
-    text: &'a str,
+    input: &'a str,
     first: char,
     after: &'a str,
 ) -> Result<Piece<'a>, AllocError>
-    requires chars { chars text.now ≡ first ∷ chars after.now }
-    requires bytes { text.now ≡ encode_utf8 first ++ after.now }
-    requires shorter { length after.now < length text.now }
+    requires chars { chars input.now ≡ first ∷ chars after.now }
+    requires bytes { input.now ≡ encode_utf8 first ++ after.now }
+    requires shorter { length after.now < length input.now }
     ensures value { IfOk result (λ found. piece_of found ≡ spec.piece first (chars after.now)) }
-    ensures within { IfOk result (IsWithin (length text.now - 1)) }
+    ensures within { IfOk result (IsWithin (length input.now - 1)) }
 {
     if is_in(Class::Blank, first) {
         return Ok(Piece::Gap(past(Class::Blank, after)));
@@ -101,5 +101,5 @@ pub(crate) fn piece_at<'a>(
     {
         return Ok(found);
     }
-    token(alloc, text, first, after)
+    token(alloc, input, first, after)
 }

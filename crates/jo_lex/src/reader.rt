@@ -23,11 +23,11 @@ fn word_kind(is_reserved: bool, id: TextId) -> TokenKind
 }
 
 // The kind of a token, with its text in the table.
-fn kind_of(lexeme: Lexeme<'_>, texts: &mut Texts) -> Result<TokenKind, InternFault>
+fn token_kind(lexeme: Lexeme<'_>, texts: &mut Texts) -> Result<TokenKind, InternFault>
     ensures ok { IfOk result (λ kind.
-        spec.kind_of texts.old (lexeme_of lexeme.entry) ≡ Some (kind, texts.new)) }
+        spec.token_kind texts.old (lexeme_of lexeme.entry) ≡ Some (kind, texts.new)) }
     ensures full { IsErrOf result InternFault.TooManyTexts
-        → spec.kind_of texts.old (lexeme_of lexeme.entry) ≡ None }
+        → spec.token_kind texts.old (lexeme_of lexeme.entry) ≡ None }
     ensures err { OnErr result (texts.new ≡ texts.old) }
 {
     match lexeme {
@@ -70,7 +70,7 @@ fn add(
     ensures kept { OnErr result (texts.new ≡ texts.old) }
 {
     tokens.reserve(1)?;
-    match kind_of(lexeme, texts) {
+    match token_kind(lexeme, texts) {
         Ok(kind) => {
             tokens.push_reserved(Token { kind, start, end });
             Ok(())
@@ -82,28 +82,28 @@ fn add(
 // Takes the piece that begins with this character, and gives what is left.
 fn advance<'a>(
     alloc: Global,
-    text: &'a str,
+    input: &'a str,
     first: char,
     after: &'a str,
     place: u32,
     tokens: &mut Vec<Token>,
     texts: &mut Texts,
 ) -> Result<&'a str, ParseFault>
-    requires chars { chars text.now ≡ first ∷ chars after.now }
-    requires bytes { text.now ≡ encode_utf8 first ++ after.now }
-    requires shorter { length after.now < length text.now }
-    requires place { place + length text.now ≤ u32.MAX }
-    ensures onward { IfOk result (λ rest. spec.next (at place text.now tokens.old.items texts.old)
-        ≡ spec.onward (at (place + (length text.now - length rest.now)) rest.now
+    requires chars { chars input.now ≡ first ∷ chars after.now }
+    requires bytes { input.now ≡ encode_utf8 first ++ after.now }
+    requires shorter { length after.now < length input.now }
+    requires place { place + length input.now ≤ u32.MAX }
+    ensures onward { IfOk result (λ rest. spec.next (at place input.now tokens.old.items texts.old)
+        ≡ spec.onward (at (place + (length input.now - length rest.now)) rest.now
         tokens.new.items texts.new)) }
-    ensures shorter { IfOk result (λ rest. length rest.now < length text.now) }
-    ensures err { IfErr result (FailsAt (at place text.now tokens.old.items texts.old)) }
+    ensures shorter { IfOk result (λ rest. length rest.now < length input.now) }
+    ensures err { IfErr result (FailsAt (at place input.now tokens.old.items texts.old)) }
     ensures kept { OnErr result (texts.new ≡ texts.old) }
 {
-    match piece_at(alloc, text, first, after)? {
+    match piece_at(alloc, input, first, after)? {
         Piece::Gap(rest) => Ok(rest),
         Piece::Token(lexeme, rest) => {
-            let end = place + (text.len() - rest.len()) as u32;
+            let end = place + (input.len() - rest.len()) as u32;
             add(lexeme, place, end, tokens, texts)?;
             Ok(rest)
         }
@@ -117,22 +117,22 @@ fn advance<'a>(
 /// it had, and the texts of the tokens before the place reached.
 pub fn tokens(
     alloc: Global,
-    text: &str,
+    input: &str,
     base: u32,
     texts: &mut Texts,
 ) -> Result<Vec<Token>, ParseFault>
-    requires { base + length text.now ≤ u32.MAX }
+    requires { base + length input.now ≤ u32.MAX }
     ensures ok { IfOk result (λ tokens.
-        spec.IsRead (spec.start base texts.old (chars text.now)) tokens.items texts.new) }
-    ensures err { IfErr result (spec.Fails (spec.start base texts.old (chars text.now)) texts.new) }
+        spec.IsRead (spec.start base texts.old (chars input.now)) tokens.items texts.new) }
+    ensures err { IfErr result (spec.Fails (spec.start base texts.old (chars input.now)) texts.new) }
 {
     let mut tokens = Vec::new(alloc);
-    let mut rest = text;
+    let mut rest = input;
     while let Some((first, after)) = first_of(rest) {
-        let place = base + (text.len() - rest.len()) as u32;
+        let place = base + (input.len() - rest.len()) as u32;
         rest = advance(alloc, rest, first, after, place, &mut tokens, texts)?;
     }
-    let end = base + text.len() as u32;
+    let end = base + input.len() as u32;
     tokens.reserve(1)?;
     tokens.push_reserved(Token {
         kind: TokenKind::End,

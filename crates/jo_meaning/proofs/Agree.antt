@@ -11,7 +11,7 @@ use Rattle.jo_tree.specs.declared.operator.AssignOperator.{AssignOperator}
 use Rattle.jo_tree.specs.declared.operator.AssignOperator.TheVariants as assign_op
 use Rattle.jo_tree.specs.declared.operator.BinaryOperator.{BinaryOperator}
 use Rattle.jo_tree.specs.declared.operator.BinaryOperator.TheVariants as binary
-use Rattle.jo_tree.specs.Trees.{Tree, number, literal, constant, variable, group, object, cas, member, unary, delete, chain, choose, assign, Props, no_props, prop, Accesses, no_accesses, field, index, Links, no_links, link, Binding, Head, declares, begins, Statement, empty, block, when, either, while, for, break, continue, print, print_names, run, Items, no_items, declare, perform}
+use Rattle.jo_tree.specs.Trees.{Tree, number, literal, constant, variable, group, object, cas, member, unary, delete, chain, choose, assign, Props, no_props, prop, Accesses, no_accesses, field, index, Links, no_links, link, Binding, Head, declares, begins, Statement, empty, block, when, either, while, for, break, continue, print, print_names, evaluate, Items, no_items, declare, perform}
 use Rattle.jo_model.specs.declared.call.Call.{Call}
 use Rattle.jo_model.specs.declared.call.Call.TheVariants as call
 use Rattle.jo_model.specs.declared.call.Outcome.{Outcome}
@@ -20,12 +20,12 @@ use Rattle.jo_model.specs.declared.call.Reply.{Reply}
 use Rattle.jo_model.specs.declared.call.Reply.TheVariants as reply
 use Rattle.jo_model.specs.Printed.{line_of}
 use Rattle.jo_meaning.specs.Runs.{Interaction, Ends, Asks, Takes}
-use Rattle.jo_meaning.specs.State.{State, Next, Scope, ends, unless_fault, unless_refused, asks, made_in, found_in, flag_in, names_in, take_turn, variable_of, value_at, with_value_at}
+use Rattle.jo_meaning.specs.State.{State, Next, Environment, ends, unless_fault, unless_refused, asks, made_in, found_in, flag_in, names_in, take_turn, variable_of, value_at, with_value_at}
 use Rattle.jo_meaning.specs.Values.{is_falsy, apply, apply_unary, object_in}
 use Rattle.jo_meaning.specs.Keys.{key_in, name_value, prop_value}
 use Rattle.jo_value.specs.declared.limits.TheConstants.{MOST_LINE_BYTES}
 use Rattle.jo_meaning.specs.Printed.{line_of_names, prints}
-use Rattle.jo_meaning.specs.Expressions.{Giving, constant_value, Reference, plain, slot, property, on_property, get_value, put_value, deletes, adjusts, assigns, operates, evaluates, refers, reaches, fills, operates_each, evaluates_each}
+use Rattle.jo_meaning.specs.Expressions.{Giving, constant_value, Reference, plain, named, property, on_property, get_value, put_value, deletes, adjusts, assigns, operates, evaluates, refers, reaches, fills, operates_each, evaluates_each}
 use Rattle.jo_tree.specs.Blocks.{declared_in, declared_by}
 use Rattle.jo_meaning.specs.Statements.{evaluates_or, steps, binds, starts, repeats, loops, loops_for, executes, executes_all}
 
@@ -86,18 +86,18 @@ module _ (texts : Table) where
 
   pub agree_get : (r : Reference) → Keeps (get_value texts r)
   agree_get (plain v) P k k' h = h v
-  agree_get (slot x) P k k' h = record { by = λ s le. (h (value_at x s)).by s le }
+  agree_get (named x) P k k' h = record { by = λ s le. (h (value_at x s)).by s le }
   agree_get (property base key) P k k' h = agree_on base key P _ _ (λ o p. agree_asks (call.Get o p) P _ _ (λ r. h (found_in r)))
 
   pub agree_put : (r : Reference) (new : Value) → KeepsOne (put_value texts r new)
   agree_put (plain v) new P k k' h = h
-  agree_put (slot None) new P k k' h = h
-  agree_put (slot (Some x)) new P k k' h = record { by = λ s le. h.by (with_value_at (Some x) new s) le }
+  agree_put (named None) new P k k' h = h
+  agree_put (named (Some x)) new P k k' h = record { by = λ s le. h.by (with_value_at (Some x) new s) le }
   agree_put (property base key) new P k k' h = agree_on base key P _ _ (λ o p. agree_asks (call.Put o p new) P _ _ (λ r. h))
 
   pub agree_delete : (r : Reference) → KeepsOne (deletes texts r)
   agree_delete (plain v) P k k' h = h
-  agree_delete (slot x) P k k' h = h
+  agree_delete (named x) P k k' h = h
   agree_delete (property base key) P k k' h = agree_on base key P _ _ (λ o p. agree_asks (call.Delete o p) P _ _ (λ r. h))
 
   pub agree_operator : (operator : BinaryOperator) (x : Value) (right : Giving Value) → Keeps right → Keeps (operates texts operator x right)
@@ -125,80 +125,80 @@ module _ (texts : Table) where
   agree_assign assign_op.Subtract r right give P k k' h = agree_adjust binary.Minus r right give P k k' h
 
   mutual
-    pub agree_expression : (scope : Scope) (e : Tree) → Keeps (evaluates texts scope e)
-    agree_expression scope (number i) P k k' h = h (value.Int i)
-    agree_expression scope (literal t) P k k' h = h (value.Text t.text)
-    agree_expression scope (constant w) P k k' h = h (constant_value w)
-    agree_expression scope (variable x) P k k' h = agree_get (slot (variable_of scope x)) P k k' h
-    agree_expression scope (group e) P k k' h = agree_expression scope e P k k' h
-    agree_expression scope (object props comma) P k k' h =
-        agree_asks call.New P _ _ (λ r. agree_props scope (made_in r) props P _ _ (h (made_in r)))
-    agree_expression scope (cas o key old new) P k k' h =
-        agree_expression scope o P _ _ (λ o. agree_expression scope key P _ _ (λ key. agree_expression scope old P _ _ (λ old. agree_expression scope new P _ _ (λ new.
+    pub agree_expression : (environment : Environment) (e : Tree) → Keeps (evaluates texts environment e)
+    agree_expression environment (number i) P k k' h = h (value.Int i)
+    agree_expression environment (literal t) P k k' h = h (value.Text t.text)
+    agree_expression environment (constant w) P k k' h = h (constant_value w)
+    agree_expression environment (variable x) P k k' h = agree_get (named (variable_of environment x)) P k k' h
+    agree_expression environment (group e) P k k' h = agree_expression environment e P k k' h
+    agree_expression environment (object props comma) P k k' h =
+        agree_asks call.New P _ _ (λ r. agree_props environment (made_in r) props P _ _ (h (made_in r)))
+    agree_expression environment (cas o key old new) P k k' h =
+        agree_expression environment o P _ _ (λ o. agree_expression environment key P _ _ (λ key. agree_expression environment old P _ _ (λ old. agree_expression environment new P _ _ (λ new.
         agree_on o key P _ _ (λ o p. agree_asks (call.Cas o p old new) P _ _ (λ r. h (found_in r)))))))
-    agree_expression scope (member e accesses) P k k' h =
-        agree_expression scope e P _ _ (λ v. agree_accesses scope (plain v) accesses P _ _ (λ r. agree_get r P k k' h))
-    agree_expression scope (unary operator e) P k k' h = agree_expression scope e P _ _ (λ v. agree_fault (apply_unary texts operator v) P k k' h)
-    agree_expression scope (delete e) P k k' h = agree_target scope e P _ _ (λ r. agree_delete r P _ _ (h (value.Bool true)))
-    agree_expression scope (chain level e links) P k k' h = agree_expression scope e P _ _ (λ v. agree_links scope v links P k k' h)
-    agree_expression scope (choose c a b) P k k' h =
-        agree_expression scope c P _ _ (λ v. agree_if P (is_falsy texts v) _ _ _ _ (agree_expression scope b P k k' h) (agree_expression scope a P k k' h))
-    agree_expression scope (assign operator target e) P k k' h =
-        agree_target scope target P _ _ (λ r. agree_assign operator r (evaluates texts scope e) (agree_expression scope e) P k k' h)
+    agree_expression environment (member e accesses) P k k' h =
+        agree_expression environment e P _ _ (λ v. agree_accesses environment (plain v) accesses P _ _ (λ r. agree_get r P k k' h))
+    agree_expression environment (unary operator e) P k k' h = agree_expression environment e P _ _ (λ v. agree_fault (apply_unary texts operator v) P k k' h)
+    agree_expression environment (delete e) P k k' h = agree_target environment e P _ _ (λ r. agree_delete r P _ _ (h (value.Bool true)))
+    agree_expression environment (chain level e links) P k k' h = agree_expression environment e P _ _ (λ v. agree_links environment v links P k k' h)
+    agree_expression environment (choose c a b) P k k' h =
+        agree_expression environment c P _ _ (λ v. agree_if P (is_falsy texts v) _ _ _ _ (agree_expression environment b P k k' h) (agree_expression environment a P k k' h))
+    agree_expression environment (assign operator target e) P k k' h =
+        agree_target environment target P _ _ (λ r. agree_assign operator r (evaluates texts environment e) (agree_expression environment e) P k k' h)
 
-    agree_target : (scope : Scope) (e : Tree) → Keeps (refers texts scope e)
-    agree_target scope (variable x) P k k' h = h (slot (variable_of scope x))
-    agree_target scope (member e accesses) P k k' h = agree_expression scope e P _ _ (λ v. agree_accesses scope (plain v) accesses P k k' h)
-    agree_target scope (number i) P k k' h = h (plain value.Undefined)
-    agree_target scope (literal t) P k k' h = h (plain value.Undefined)
-    agree_target scope (constant w) P k k' h = h (plain value.Undefined)
-    agree_target scope (group e) P k k' h = h (plain value.Undefined)
-    agree_target scope (object props comma) P k k' h = h (plain value.Undefined)
-    agree_target scope (cas o key old new) P k k' h = h (plain value.Undefined)
-    agree_target scope (unary operator e) P k k' h = h (plain value.Undefined)
-    agree_target scope (delete e) P k k' h = h (plain value.Undefined)
-    agree_target scope (chain level e links) P k k' h = h (plain value.Undefined)
-    agree_target scope (choose c a b) P k k' h = h (plain value.Undefined)
-    agree_target scope (assign operator target e) P k k' h = h (plain value.Undefined)
+    agree_target : (environment : Environment) (e : Tree) → Keeps (refers texts environment e)
+    agree_target environment (variable x) P k k' h = h (named (variable_of environment x))
+    agree_target environment (member e accesses) P k k' h = agree_expression environment e P _ _ (λ v. agree_accesses environment (plain v) accesses P k k' h)
+    agree_target environment (number i) P k k' h = h (plain value.Undefined)
+    agree_target environment (literal t) P k k' h = h (plain value.Undefined)
+    agree_target environment (constant w) P k k' h = h (plain value.Undefined)
+    agree_target environment (group e) P k k' h = h (plain value.Undefined)
+    agree_target environment (object props comma) P k k' h = h (plain value.Undefined)
+    agree_target environment (cas o key old new) P k k' h = h (plain value.Undefined)
+    agree_target environment (unary operator e) P k k' h = h (plain value.Undefined)
+    agree_target environment (delete e) P k k' h = h (plain value.Undefined)
+    agree_target environment (chain level e links) P k k' h = h (plain value.Undefined)
+    agree_target environment (choose c a b) P k k' h = h (plain value.Undefined)
+    agree_target environment (assign operator target e) P k k' h = h (plain value.Undefined)
 
-    agree_accesses : (scope : Scope) (r : Reference) (accesses : Accesses) → Keeps (reaches texts scope r accesses)
-    agree_accesses scope r no_accesses P k k' h = h r
-    agree_accesses scope r (field name more) P k k' h =
-        agree_get r P _ _ (λ base. agree_accesses scope (property base (name_value texts name)) more P k k' h)
-    agree_accesses scope r (index e more) P k k' h =
-        agree_get r P _ _ (λ base. agree_expression scope e P _ _ (λ key. agree_accesses scope (property base key) more P k k' h))
+    agree_accesses : (environment : Environment) (r : Reference) (accesses : Accesses) → Keeps (reaches texts environment r accesses)
+    agree_accesses environment r no_accesses P k k' h = h r
+    agree_accesses environment r (field name more) P k k' h =
+        agree_get r P _ _ (λ base. agree_accesses environment (property base (name_value texts name)) more P k k' h)
+    agree_accesses environment r (index e more) P k k' h =
+        agree_get r P _ _ (λ base. agree_expression environment e P _ _ (λ key. agree_accesses environment (property base key) more P k k' h))
 
-    agree_props : (scope : Scope) (o : Value) (props : Props) → KeepsOne (fills texts scope o props)
-    agree_props scope o no_props P k k' h = h
-    agree_props scope o (prop key e more) P k k' h =
-        agree_expression scope e P _ _ (λ v. agree_put (property o (prop_value texts key)) v P _ _ (agree_props scope o more P k k' h))
+    agree_props : (environment : Environment) (o : Value) (props : Props) → KeepsOne (fills texts environment o props)
+    agree_props environment o no_props P k k' h = h
+    agree_props environment o (prop key e more) P k k' h =
+        agree_expression environment e P _ _ (λ v. agree_put (property o (prop_value texts key)) v P _ _ (agree_props environment o more P k k' h))
 
-    agree_links : (scope : Scope) (x : Value) (links : Links) → Keeps (operates_each texts scope x links)
-    agree_links scope x no_links P k k' h = h x
-    agree_links scope x (link operator e more) P k k' h =
-        agree_operator operator x (evaluates texts scope e) (agree_expression scope e) P _ _ (λ v. agree_links scope v more P k k' h)
+    agree_links : (environment : Environment) (x : Value) (links : Links) → Keeps (operates_each texts environment x links)
+    agree_links environment x no_links P k k' h = h x
+    agree_links environment x (link operator e more) P k k' h =
+        agree_operator operator x (evaluates texts environment e) (agree_expression environment e) P _ _ (λ v. agree_links environment v more P k k' h)
 
-  pub agree_each : (scope : Scope) (es : List Tree) → Keeps (evaluates_each texts scope es)
-  agree_each scope [] P k k' h = h []
-  agree_each scope (e ∷ more) P k k' h = agree_expression scope e P _ _ (λ v. agree_each scope more P _ _ (λ values. h (v ∷ values)))
+  pub agree_each : (environment : Environment) (es : List Tree) → Keeps (evaluates_each texts environment es)
+  agree_each environment [] P k k' h = h []
+  agree_each environment (e ∷ more) P k k' h = agree_expression environment e P _ _ (λ v. agree_each environment more P _ _ (λ values. h (v ∷ values)))
 
   -- ---- statements
 
-  pub agree_or : (other : Value) (scope : Scope) (e : Option Tree) → Keeps (evaluates_or texts other scope e)
-  agree_or other scope None P k k' h = h other
-  agree_or other scope (Some e) P k k' h = agree_expression scope e P k k' h
+  pub agree_or : (other : Value) (environment : Environment) (e : Option Tree) → Keeps (evaluates_or texts other environment e)
+  agree_or other environment None P k k' h = h other
+  agree_or other environment (Some e) P k k' h = agree_expression environment e P k k' h
 
-  pub agree_steps : (scope : Scope) (e : Option Tree) → KeepsOne (steps texts scope e)
-  agree_steps scope e P k k' h = agree_or value.Undefined scope e P _ _ (λ v. h)
+  pub agree_steps : (environment : Environment) (e : Option Tree) → KeepsOne (steps texts environment e)
+  agree_steps environment e P k k' h = agree_or value.Undefined environment e P _ _ (λ v. h)
 
-  pub agree_binds : (scope : Scope) (bindings : List Binding) → KeepsOne (binds texts scope bindings)
-  agree_binds scope [] P k k' h = h
-  agree_binds scope (b ∷ bindings) P k k' h =
-      agree_or value.Undefined scope b.1 P _ _ (λ v. agree_put (slot (variable_of scope b.0)) v P _ _ (agree_binds scope bindings P k k' h))
+  pub agree_binds : (environment : Environment) (bindings : List Binding) → KeepsOne (binds texts environment bindings)
+  agree_binds environment [] P k k' h = h
+  agree_binds environment (b ∷ bindings) P k k' h =
+      agree_or value.Undefined environment b.1 P _ _ (λ v. agree_put (named (variable_of environment b.0)) v P _ _ (agree_binds environment bindings P k k' h))
 
-  pub agree_starts : (scope : Scope) (head : Head) → KeepsOne (starts texts scope head)
-  agree_starts scope (declares bindings) P k k' h = agree_binds scope bindings P k k' h
-  agree_starts scope (begins e) P k k' h = agree_steps scope e P k k' h
+  pub agree_starts : (environment : Environment) (head : Head) → KeepsOne (starts texts environment head)
+  agree_starts environment (declares bindings) P k k' h = agree_binds environment bindings P k k' h
+  agree_starts environment (begins e) P k k' h = agree_steps environment e P k k' h
 
   -- what has three ways to go on keeps it where they agree up to so many turns
   abbrev pub KeepsThree : (Next → Next → Next → Next) → Type 0
@@ -258,46 +258,46 @@ module _ (texts : Table) where
         bounds s.turns (suc s.turns) s (omega arith) (omega arith)
         ∙ agree_one s.turns (up_to s.turns) whole (λ s' lt. bounds s.turns s'.turns s' (omega (arith, lt)) (omega arith)) s
 
-  agree_for : (scope : Scope) (head : Head) (c step : Option Tree) (body : Scope → Next → Next → Next → Next) → KeepsThree (body scope)
+  agree_for : (environment : Environment) (head : Head) (c step : Option Tree) (body : Environment → Next → Next → Next → Next) → KeepsThree (body environment)
       → (n : ℕ) (k k' : Next) → Agree (AtMost n) k k'
-      → Agree (AtMost n) (loops_for texts scope head c step body k) (loops_for texts scope head c step body k')
-  agree_for scope head c step body keeps n k k' h =
-      agree_starts scope head (AtMost n) _ _ (agree_loops (evaluates_or texts (value.Bool true) scope c)
-      (λ again after. body scope (steps texts scope step again) after (steps texts scope step again))
-      (agree_or (value.Bool true) scope c)
-      (λ n a a' b b' ha hb. keeps n _ _ _ _ _ _ (agree_steps scope step (AtMost n) a a' ha) hb (agree_steps scope step (AtMost n) a a' ha)) n k k' h)
+      → Agree (AtMost n) (loops_for texts environment head c step body k) (loops_for texts environment head c step body k')
+  agree_for environment head c step body keeps n k k' h =
+      agree_starts environment head (AtMost n) _ _ (agree_loops (evaluates_or texts (value.Bool true) environment c)
+      (λ again after. body environment (steps texts environment step again) after (steps texts environment step again))
+      (agree_or (value.Bool true) environment c)
+      (λ n a a' b b' ha hb. keeps n _ _ _ _ _ _ (agree_steps environment step (AtMost n) a a' ha) hb (agree_steps environment step (AtMost n) a a' ha)) n k k' h)
 
   mutual
-    pub agree_statement : (scope : Scope) (statement : Statement) → KeepsThree (executes texts scope statement)
-    agree_statement scope empty n k k' b b' c c' hk hb hc = hk
-    agree_statement scope (block items) n k k' b b' c c' hk hb hc = agree_items (declared_in items ++ scope) items n _ _ _ _ _ _ hk hb hc
-    agree_statement scope (when e a) n k k' b b' c c' hk hb hc =
-        agree_expression scope e (AtMost n) _ _ (λ v. agree_if (AtMost n) (is_falsy texts v) _ _ _ _ hk (agree_statement scope a n _ _ _ _ _ _ hk hb hc))
-    agree_statement scope (either e a other) n k k' b b' c c' hk hb hc =
-        agree_expression scope e (AtMost n) _ _ (λ v. agree_if (AtMost n) (is_falsy texts v) _ _ _ _ (agree_statement scope other n _ _ _ _ _ _ hk hb hc) (agree_statement scope a n _ _ _ _ _ _ hk hb hc))
-    agree_statement scope (while e body) n k k' b b' c c' hk hb hc =
-        agree_loops (evaluates texts scope e) (λ again after. executes texts scope body again after again) (agree_expression scope e)
-        (λ n a a' b b' ha hb. agree_statement scope body n _ _ _ _ _ _ ha hb ha) n k k' hk
-    agree_statement scope (for head e step body) n k k' b b' c c' hk hb hc =
-        agree_for (declared_by head ++ scope) head e step (λ inner. executes texts inner body) (agree_statement (declared_by head ++ scope) body) n k k' hk
-    agree_statement scope break n k k' b b' c c' hk hb hc = hb
-    agree_statement scope continue n k k' b b' c c' hk hb hc = hc
-    agree_statement scope (print es) n k k' b b' c c' hk hb hc = agree_each scope es (AtMost n) _ _ (λ values. agree_line (line_of texts values) (AtMost n) _ _ hk)
-    agree_statement scope (print_names e) n k k' b b' c c' hk hb hc =
-        agree_expression scope e (AtMost n) _ _ (λ v. agree_fault (object_in v) (AtMost n) _ _ (λ o. agree_asks (call.Names o) (AtMost n) _ _ (λ r. agree_line (line_of_names texts (names_in r)) (AtMost n) _ _ hk)))
-    agree_statement scope (run e) n k k' b b' c c' hk hb hc = agree_expression scope e (AtMost n) _ _ (λ v. hk)
+    pub agree_statement : (environment : Environment) (statement : Statement) → KeepsThree (executes texts environment statement)
+    agree_statement environment empty n k k' b b' c c' hk hb hc = hk
+    agree_statement environment (block items) n k k' b b' c c' hk hb hc = agree_items (declared_in items ++ environment) items n _ _ _ _ _ _ hk hb hc
+    agree_statement environment (when e a) n k k' b b' c c' hk hb hc =
+        agree_expression environment e (AtMost n) _ _ (λ v. agree_if (AtMost n) (is_falsy texts v) _ _ _ _ hk (agree_statement environment a n _ _ _ _ _ _ hk hb hc))
+    agree_statement environment (either e a other) n k k' b b' c c' hk hb hc =
+        agree_expression environment e (AtMost n) _ _ (λ v. agree_if (AtMost n) (is_falsy texts v) _ _ _ _ (agree_statement environment other n _ _ _ _ _ _ hk hb hc) (agree_statement environment a n _ _ _ _ _ _ hk hb hc))
+    agree_statement environment (while e body) n k k' b b' c c' hk hb hc =
+        agree_loops (evaluates texts environment e) (λ again after. executes texts environment body again after again) (agree_expression environment e)
+        (λ n a a' b b' ha hb. agree_statement environment body n _ _ _ _ _ _ ha hb ha) n k k' hk
+    agree_statement environment (for head e step body) n k k' b b' c c' hk hb hc =
+        agree_for (declared_by head ++ environment) head e step (λ inner. executes texts inner body) (agree_statement (declared_by head ++ environment) body) n k k' hk
+    agree_statement environment break n k k' b b' c c' hk hb hc = hb
+    agree_statement environment continue n k k' b b' c c' hk hb hc = hc
+    agree_statement environment (print es) n k k' b b' c c' hk hb hc = agree_each environment es (AtMost n) _ _ (λ values. agree_line (line_of texts values) (AtMost n) _ _ hk)
+    agree_statement environment (print_names e) n k k' b b' c c' hk hb hc =
+        agree_expression environment e (AtMost n) _ _ (λ v. agree_fault (object_in v) (AtMost n) _ _ (λ o. agree_asks (call.Names o) (AtMost n) _ _ (λ r. agree_line (line_of_names texts (names_in r)) (AtMost n) _ _ hk)))
+    agree_statement environment (evaluate e) n k k' b b' c c' hk hb hc = agree_expression environment e (AtMost n) _ _ (λ v. hk)
 
-    pub agree_items : (scope : Scope) (items : Items) → KeepsThree (executes_all texts scope items)
-    agree_items scope no_items n k k' b b' c c' hk hb hc = hk
-    agree_items scope (declare bindings items) n k k' b b' c c' hk hb hc = agree_binds scope bindings (AtMost n) _ _ (agree_items scope items n _ _ _ _ _ _ hk hb hc)
-    agree_items scope (perform statement items) n k k' b b' c c' hk hb hc =
-        agree_statement scope statement n _ _ _ _ _ _ (agree_items scope items n _ _ _ _ _ _ hk hb hc) hb hc
+    pub agree_items : (environment : Environment) (items : Items) → KeepsThree (executes_all texts environment items)
+    agree_items environment no_items n k k' b b' c c' hk hb hc = hk
+    agree_items environment (declare bindings items) n k k' b b' c c' hk hb hc = agree_binds environment bindings (AtMost n) _ _ (agree_items environment items n _ _ _ _ _ _ hk hb hc)
+    agree_items environment (perform statement items) n k k' b b' c c' hk hb hc =
+        agree_statement environment statement n _ _ _ _ _ _ (agree_items environment items n _ _ _ _ _ _ hk hb hc) hb hc
 
   -- a `while`, turn by turn
-  pub while_by_turns : (scope : Scope) (e : Tree) (body : Statement) (next broken continued : Next) (s : State)
-      → executes texts scope (while e body) next broken continued s
-      ≡ take_turn s.turns (evaluates texts scope e (λ v. if is_falsy texts v then next
-      else executes texts scope body (executes texts scope (while e body) next broken continued) next (executes texts scope (while e body) next broken continued))) s
-  while_by_turns scope e body next broken continued s =
-      turn_by_turn (evaluates texts scope e) (λ again after. executes texts scope body again after again) (agree_expression scope e)
-      (λ n a a' b b' ha hb. agree_statement scope body n _ _ _ _ _ _ ha hb ha) next s
+  pub while_by_turns : (environment : Environment) (e : Tree) (body : Statement) (next broken continued : Next) (s : State)
+      → executes texts environment (while e body) next broken continued s
+      ≡ take_turn s.turns (evaluates texts environment e (λ v. if is_falsy texts v then next
+      else executes texts environment body (executes texts environment (while e body) next broken continued) next (executes texts environment (while e body) next broken continued))) s
+  while_by_turns environment e body next broken continued s =
+      turn_by_turn (evaluates texts environment e) (λ again after. executes texts environment body again after again) (agree_expression environment e)
+      (λ n a a' b b' ha hb. agree_statement environment body n _ _ _ _ _ _ ha hb ha) next s

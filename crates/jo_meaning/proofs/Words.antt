@@ -12,7 +12,7 @@ use Rattle.jo_tree.specs.declared.operator.BinaryOperator.TheVariants as op
 use Rattle.jo_tree.specs.declared.operator.UnaryOperator.TheVariants as unary_op
 use Rattle.jo_tree.specs.declared.word.Ident.{Ident}
 use Rattle.jo_tree.specs.declared.word.Name.TheVariants as word
-use Rattle.jo_tree.specs.Trees.{Tree, number, literal, constant, variable, member, unary, chain, assign, no_accesses, field, index, no_links, link, Binding, Statement, print, run, Items, no_items, declare, perform}
+use Rattle.jo_tree.specs.Trees.{Tree, number, literal, constant, variable, member, unary, chain, assign, no_accesses, field, index, no_links, link, Binding, Statement, print, evaluate, Items, no_items, declare, perform}
 use Rattle.jo_model.specs.declared.call.Call.{Call}
 use Rattle.jo_model.specs.declared.call.Call.TheVariants as call
 use Rattle.jo_model.specs.declared.call.Outcome.{Outcome}
@@ -151,7 +151,7 @@ printing e replies = after (all (show e ∷ [])) replies
 
 -- what an expression does as a statement
 abbrev pub running : Tree → List Reply → Run
-running e replies = after (all (run e ∷ [])) replies
+running e replies = after (all (evaluate e ∷ [])) replies
 
 -- a run that ended, with its calls, its turns and its lines
 abbrev pub ended : Outcome → List Call → ℕ → List ℕ → Run

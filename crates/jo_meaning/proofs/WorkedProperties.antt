@@ -10,7 +10,7 @@ use Rattle.jo_tree.specs.declared.operator.BinaryOperator.TheVariants as op
 use Rattle.jo_tree.specs.declared.operator.UnaryOperator.TheVariants as unary_op
 use Rattle.jo_tree.specs.declared.word.Name.TheVariants as word
 use Rattle.jo_tree.specs.declared.word.PropKey.TheVariants as prop_key
-use Rattle.jo_tree.specs.Trees.{Tree, group, object, cas, member, unary, delete, assign, no_props, prop, no_accesses, field, index, run}
+use Rattle.jo_tree.specs.Trees.{Tree, group, object, cas, member, unary, delete, assign, no_props, prop, no_accesses, field, index, evaluate}
 use Rattle.jo_model.specs.declared.call.Call.TheVariants as call
 use Rattle.jo_model.specs.declared.call.Outcome.TheVariants as outcome
 use Rattle.jo_model.specs.declared.call.Reply.TheVariants as reply
@@ -103,8 +103,8 @@ a_word_that_the_table_lacks_is_no_key = refl
 -- shared.x.y
 pub accesses_go_from_left_to_right :
     printing (member shared_word (field (word.Ident (ident 0)) (field (word.Ident (ident 1)) no_accesses)))
-    (reply.Found (value.Object (record { pass = 1; number = 2 })) ∷ found 4 ∷ [])
-    ≡ done (get (name 0) ∷ call.Get (record { pass = 1; number = 2 }) (name 1) ∷ []) (codes "4\n")
+    (reply.Found (value.Object (record { pass = 1; serial = 2 })) ∷ found 4 ∷ [])
+    ≡ done (get (name 0) ∷ call.Get (record { pass = 1; serial = 2 }) (name 1) ∷ []) (codes "4\n")
 unfolding digits
 accesses_go_from_left_to_right = refl
 
@@ -124,9 +124,9 @@ a_fault_of_the_base_comes_before_the_key = refl
 -- {x: shared.y, 7: shared.z}
 pub properties_are_evaluated_and_put_one_after_another :
     printing (object (prop (prop_key.Name (word.Ident (ident 0))) shared_y (prop (prop_key.Number (pos 7)) shared_z no_props)) false)
-    (reply.Made (record { pass = 1; number = 0 }) ∷ found 5 ∷ reply.Done ∷ found 6 ∷ reply.Done ∷ [])
-    ≡ done (call.New ∷ get (name 1) ∷ call.Put (record { pass = 1; number = 0 }) (name 0) (integer 5)
-    ∷ get (name 2) ∷ call.Put (record { pass = 1; number = 0 }) (Index 7) (integer 6) ∷ []) (codes "#1.0\n")
+    (reply.Made (record { pass = 1; serial = 0 }) ∷ found 5 ∷ reply.Done ∷ found 6 ∷ reply.Done ∷ [])
+    ≡ done (call.New ∷ get (name 1) ∷ call.Put (record { pass = 1; serial = 0 }) (name 0) (integer 5)
+    ∷ get (name 2) ∷ call.Put (record { pass = 1; serial = 0 }) (Index 7) (integer 6) ∷ []) (codes "#1.0\n")
 unfolding digits
 properties_are_evaluated_and_put_one_after_another = refl
 
@@ -134,14 +134,14 @@ properties_are_evaluated_and_put_one_after_another = refl
 pub a_text_and_a_reserved_word_are_keys_of_a_literal :
     running (object (prop (prop_key.Text (record { text = record { 0 = 5 }; is_proto = false })) (natural 5)
     (prop (prop_key.Name (word.Keyword kw.If)) (natural 6) no_props)) false)
-    (reply.Made (record { pass = 1; number = 0 }) ∷ reply.Done ∷ reply.Done ∷ [])
-    ≡ done (call.New ∷ call.Put (record { pass = 1; number = 0 }) (Index 1023) (integer 5)
-    ∷ call.Put (record { pass = 1; number = 0 }) (name 10) (integer 6) ∷ []) []
+    (reply.Made (record { pass = 1; serial = 0 }) ∷ reply.Done ∷ reply.Done ∷ [])
+    ≡ done (call.New ∷ call.Put (record { pass = 1; serial = 0 }) (Index 1023) (integer 5)
+    ∷ call.Put (record { pass = 1; serial = 0 }) (name 10) (integer 6) ∷ []) []
 a_text_and_a_reserved_word_are_keys_of_a_literal = refl
 
 -- {1024: shared.y}
 pub a_bad_key_of_a_literal_comes_after_its_value :
-    running (object (prop (prop_key.Number (pos 1024)) shared_y no_props) false) (reply.Made (record { pass = 1; number = 0 }) ∷ found 5 ∷ [])
+    running (object (prop (prop_key.Number (pos 1024)) shared_y no_props) false) (reply.Made (record { pass = 1; serial = 0 }) ∷ found 5 ∷ [])
     ≡ fails outcome.KeyOutside (call.New ∷ get (name 1) ∷ [])
 a_bad_key_of_a_literal_comes_after_its_value = refl
 
@@ -155,8 +155,8 @@ an_assignment_evaluates_base_key_and_value_and_gives_the_value = refl
 -- shared.x.y = shared.z
 pub an_assignment_reads_all_accesses_but_the_last :
     running (set (member shared_word (field (word.Ident (ident 0)) (field (word.Ident (ident 1)) no_accesses))) shared_z)
-    (reply.Found (value.Object (record { pass = 1; number = 2 })) ∷ found 4 ∷ reply.Done ∷ [])
-    ≡ done (get (name 0) ∷ get (name 2) ∷ call.Put (record { pass = 1; number = 2 }) (name 1) (integer 4) ∷ []) []
+    (reply.Found (value.Object (record { pass = 1; serial = 2 })) ∷ found 4 ∷ reply.Done ∷ [])
+    ≡ done (get (name 0) ∷ get (name 2) ∷ call.Put (record { pass = 1; serial = 2 }) (name 1) (integer 4) ∷ []) []
 an_assignment_reads_all_accesses_but_the_last = refl
 
 -- null.x = shared.y
@@ -208,14 +208,14 @@ a_compound_assignment_evaluates_its_key_once = refl
 
 -- let x = 5; x -= 2; print(x);
 pub a_variable_is_adjusted_too :
-    after (with 0 (natural 5) (all (run (assign assign_op.Subtract x (natural 2)) ∷ show x ∷ []))) [] ≡ done [] (codes "3\n")
+    after (with 0 (natural 5) (all (evaluate (assign assign_op.Subtract x (natural 2)) ∷ show x ∷ []))) [] ≡ done [] (codes "3\n")
 unfolding digits
 a_variable_is_adjusted_too = refl
 
 -- let x = shared.x; x.y = x = shared; where an object is found
 pub a_base_is_evaluated_before_the_right_side :
-    after (with 0 shared_x (all (run (set (dot x 1) (set x shared_word)) ∷ []))) (reply.Found (value.Object (record { pass = 1; number = 2 })) ∷ reply.Done ∷ [])
-    ≡ done (get (name 0) ∷ call.Put (record { pass = 1; number = 2 }) (name 1) (value.Object shared) ∷ []) []
+    after (with 0 shared_x (all (evaluate (set (dot x 1) (set x shared_word)) ∷ []))) (reply.Found (value.Object (record { pass = 1; serial = 2 })) ∷ reply.Done ∷ [])
+    ≡ done (get (name 0) ∷ call.Put (record { pass = 1; serial = 2 }) (name 1) (value.Object shared) ∷ []) []
 a_base_is_evaluated_before_the_right_side = refl
 
 -- shared.x += 1, where the largest number is found
@@ -243,8 +243,8 @@ a_delete_is_true = refl
 -- delete shared.x.y
 pub a_delete_reads_all_accesses_but_the_last :
     printing (delete (member shared_word (field (word.Ident (ident 0)) (field (word.Ident (ident 1)) no_accesses))))
-    (reply.Found (value.Object (record { pass = 1; number = 2 })) ∷ reply.Flag true ∷ [])
-    ≡ done (get (name 0) ∷ call.Delete (record { pass = 1; number = 2 }) (name 1) ∷ []) (codes "true\n")
+    (reply.Found (value.Object (record { pass = 1; serial = 2 })) ∷ reply.Flag true ∷ [])
+    ≡ done (get (name 0) ∷ call.Delete (record { pass = 1; serial = 2 }) (name 1) ∷ []) (codes "true\n")
 a_delete_reads_all_accesses_but_the_last = refl
 
 -- the same where undefined is found

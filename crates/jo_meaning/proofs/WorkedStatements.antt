@@ -6,7 +6,7 @@ use Rattle.jo_value.specs.declared.value.Value.TheVariants as value
 use Rattle.jo_tree.specs.declared.operator.BinaryOperator.TheVariants as op
 use Rattle.jo_tree.specs.declared.word.Name.TheVariants as word
 use Rattle.jo_tree.specs.declared.word.PropKey.TheVariants as prop_key
-use Rattle.jo_tree.specs.Trees.{object, no_props, prop, declares, begins, Statement, empty, block, when, either, while, for, break, continue, print, print_names, run, Items, no_items, declare, perform}
+use Rattle.jo_tree.specs.Trees.{object, no_props, prop, declares, begins, Statement, empty, block, when, either, while, for, break, continue, print, print_names, evaluate, Items, no_items, declare, perform}
 use Rattle.jo_model.specs.declared.call.Call.TheVariants as call
 use Rattle.jo_model.specs.declared.call.Outcome.TheVariants as outcome
 use Rattle.jo_model.specs.declared.call.Reply.{Reply}
@@ -30,14 +30,14 @@ an_empty_script_is_done = refl
 
 -- let x = 1; { let x = 2; print(x); x = 3; } print(x);
 pub a_name_means_the_innermost_block_that_declares_it :
-    after (with 0 (natural 1) (all (block (with 0 (natural 2) (all (show x ∷ run (set x (natural 3)) ∷ []))) ∷ show x ∷ []))) []
+    after (with 0 (natural 1) (all (block (with 0 (natural 2) (all (show x ∷ evaluate (set x (natural 3)) ∷ []))) ∷ show x ∷ []))) []
     ≡ done [] (codes "2\n1\n")
 unfolding digits
 a_name_means_the_innermost_block_that_declares_it = refl
 
 -- let x = 1; { x = 2; } print(x);
 pub a_block_assigns_to_a_variable_outside :
-    after (with 0 (natural 1) (all (braces (run (set x (natural 2)) ∷ []) ∷ show x ∷ []))) [] ≡ done [] (codes "2\n")
+    after (with 0 (natural 1) (all (braces (evaluate (set x (natural 2)) ∷ []) ∷ show x ∷ []))) [] ≡ done [] (codes "2\n")
 unfolding digits
 a_block_assigns_to_a_variable_outside = refl
 
@@ -56,7 +56,7 @@ a_block_inside_leaves_the_variables_of_those_outside = refl
 
 -- let y = 2; while (y) { let x; print(x); x = y; y += -1; }
 pub a_let_without_a_value_gives_undefined_each_time :
-    after (with 1 (natural 2) (all (while y (block (declare (bare 0 ∷ []) (all (show x ∷ run (set x y) ∷ run (add y (minus (natural 1))) ∷ [])))) ∷ []))) []
+    after (with 1 (natural 2) (all (while y (block (declare (bare 0 ∷ []) (all (show x ∷ evaluate (set x y) ∷ evaluate (add y (minus (natural 1))) ∷ [])))) ∷ []))) []
     ≡ ended outcome.Done [] 3 (codes "undefined\nundefined\n")
 a_let_without_a_value_gives_undefined_each_time = refl
 
@@ -93,7 +93,7 @@ without_a_turn_no_test_is_evaluated = refl
 
 -- let x = 0; while (true) { x += 1; shared.x = x; }
 pub five_turns_are_five_tests :
-    after (with 0 (natural 0) (all (while true_word (braces (run (add x (natural 1)) ∷ run (set shared_x x) ∷ [])) ∷ [])))
+    after (with 0 (natural 0) (all (while true_word (braces (evaluate (add x (natural 1)) ∷ evaluate (set shared_x x) ∷ [])) ∷ [])))
     (reply.Done ∷ reply.Done ∷ reply.Done ∷ reply.Done ∷ reply.Done ∷ [])
     ≡ ended outcome.TurnsSpent (put (name 0) (integer 1) ∷ put (name 0) (integer 2) ∷ put (name 0) (integer 3) ∷ put (name 0) (integer 4) ∷ put (name 0) (integer 5) ∷ []) 5 []
 five_turns_are_five_tests = refl
@@ -119,9 +119,9 @@ abbrev counts : Statement → Statement
 counts body = for (declares (binding 0 (natural 0) ∷ [])) (Some (two x op.Less (natural 3))) (Some (add x (natural 1))) body
 
 -- print(x);
-pub a_for_starts_once_and_steps_behind_its_body : after (all (counts (show x) ∷ [])) [] ≡ ended outcome.Done [] 4 (codes "0\n1\n2\n")
+pub a_for_starts_once_and_steps_after_its_body : after (all (counts (show x) ∷ [])) [] ≡ ended outcome.Done [] 4 (codes "0\n1\n2\n")
 unfolding digits
-a_for_starts_once_and_steps_behind_its_body = refl
+a_for_starts_once_and_steps_after_its_body = refl
 
 -- { if (x === 1) continue; print(x); }
 pub a_continue_in_a_for_goes_on_with_the_step :
@@ -154,7 +154,7 @@ a_fault_of_a_test_has_taken_its_turn = refl
 
 -- let y = 2; while (y) { y += -1; while (shared.x) { continue; } print(y); }
 pub a_continue_goes_on_with_the_innermost_loop :
-    after (with 1 (natural 2) (all (while y (braces (run (add y (minus (natural 1))) ∷ while shared_x (braces (continue ∷ [])) ∷ show y ∷ [])) ∷ [])))
+    after (with 1 (natural 2) (all (while y (braces (evaluate (add y (minus (natural 1))) ∷ while shared_x (braces (continue ∷ [])) ∷ show y ∷ [])) ∷ [])))
     (found 0 ∷ found 0 ∷ [])
     ≡ ended outcome.Done (get (name 0) ∷ get (name 0) ∷ []) 5 (codes "1\n0\n")
 unfolding digits
@@ -162,7 +162,7 @@ a_continue_goes_on_with_the_innermost_loop = refl
 
 -- for (let x = 0; x < 2;) { x += 1; continue; }
 pub a_continue_in_a_for_without_a_step_goes_on_with_the_test :
-    after (all (for (declares (binding 0 (natural 0) ∷ [])) (Some (two x op.Less (natural 2))) None (braces (run (add x (natural 1)) ∷ continue ∷ [])) ∷ [])) []
+    after (all (for (declares (binding 0 (natural 0) ∷ [])) (Some (two x op.Less (natural 2))) None (braces (evaluate (add x (natural 1)) ∷ continue ∷ [])) ∷ [])) []
     ≡ ended outcome.Done [] 3 []
 a_continue_in_a_for_without_a_step_goes_on_with_the_test = refl
 
@@ -177,7 +177,7 @@ a_break_leaves_the_innermost_loop = refl
 abbrev odd_numbers : Items
 odd_numbers =
     with 1 (natural 0) (all (for (declares (binding 0 (natural 1) ∷ [])) (Some (two x op.LessEqual (natural 10))) (Some (add x (natural 1)))
-    (braces (when (two (two x op.Remainder (natural 2)) op.Same (natural 0)) continue ∷ run (add y x) ∷ [])) ∷ show y ∷ []))
+    (braces (when (two (two x op.Remainder (natural 2)) op.Same (natural 0)) continue ∷ evaluate (add y x) ∷ [])) ∷ show y ∷ []))
 
 pub eleven_tests_add_five_odd_numbers : does odd_numbers texts 11 [] ≡ ended outcome.Done [] 11 (codes "25\n")
 unfolding digits
@@ -229,36 +229,36 @@ pub names_of_no_object_are_a_type_fault : after (all (print_names (natural 1) �
 names_of_no_object_are_a_type_fault = refl
 
 -- what a statement does where so many bytes were printed, at these replies
-abbrev behind : ℕ → Statement → List Reply → Run
-behind n statement replies =
+abbrev after : ℕ → Statement → List Reply → Run
+after n statement replies =
     follow (executes texts [] statement (ends outcome.Done) (ends outcome.Done) (ends outcome.Done)
     (record { turns = 0; variables = λ x. value.Undefined; lines = replicate n 120 })) replies
 
 -- print("ab");
-pub a_line_that_fills_the_room_is_kept : behind 262141 (show (text 11)) [] ≡ done [] (replicate 262141 120 ++ codes "ab\n")
+pub a_line_that_fills_the_room_is_kept : after 262141 (show (text 11)) [] ≡ done [] (replicate 262141 120 ++ codes "ab\n")
 a_line_that_fills_the_room_is_kept = refl
 
 pub one_byte_more_is_output_full_and_the_lines_before_are_kept :
-    behind 262142 (show (text 11)) [] ≡ ended outcome.OutputFull [] 0 (replicate 262142 120)
+    after 262142 (show (text 11)) [] ≡ ended outcome.OutputFull [] 0 (replicate 262142 120)
 one_byte_more_is_output_full_and_the_lines_before_are_kept = refl
 
 -- printNames(shared);
 pub names_without_room_are_output_full_after_their_call :
-    behind 262144 (print_names shared_word) (reply.Names [] ∷ []) ≡ ended outcome.OutputFull (call.Names shared ∷ []) 0 (replicate 262144 120)
+    after 262144 (print_names shared_word) (reply.Names [] ∷ []) ≡ ended outcome.OutputFull (call.Names shared ∷ []) 0 (replicate 262144 120)
 names_without_room_are_output_full_after_their_call = refl
 
 -- ---- ends
 
 -- let x = shared.x; print(1); x.y = 2; print(3);
 pub a_fault_keeps_the_calls_and_the_lines_before :
-    after (with 0 shared_x (all (show (natural 1) ∷ run (set (dot x 1) (natural 2)) ∷ show (natural 3) ∷ []))) (reply.Found value.Undefined ∷ [])
+    after (with 0 shared_x (all (show (natural 1) ∷ evaluate (set (dot x 1) (natural 2)) ∷ show (natural 3) ∷ []))) (reply.Found value.Undefined ∷ [])
     ≡ ended outcome.TypeFault (get (name 0) ∷ []) 0 (codes "1\n")
 unfolding digits
 a_fault_keeps_the_calls_and_the_lines_before = refl
 
 -- print(1); shared.x = 2; print(3);
 abbrev puts : Items
-puts = all (show (natural 1) ∷ run (set shared_x (natural 2)) ∷ show (natural 3) ∷ [])
+puts = all (show (natural 1) ∷ evaluate (set shared_x (natural 2)) ∷ show (natural 3) ∷ [])
 
 pub a_put_that_is_done_goes_on : after puts (reply.Done ∷ []) ≡ done (put (name 0) (integer 2) ∷ []) (codes "1\n3\n")
 unfolding digits

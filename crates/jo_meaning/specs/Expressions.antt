@@ -14,7 +14,7 @@ use Rattle.jo_tree.specs.declared.operator.BinaryOperator.TheVariants as binary
 use Rattle.jo_tree.specs.Trees.{Tree, number, literal, constant, variable, group, object, cas, member, unary, delete, chain, choose, assign, Props, no_props, prop, Accesses, no_accesses, field, index, Links, no_links, link}
 use Rattle.jo_model.specs.declared.call.Call.TheVariants as call
 use Rattle.jo_model.specs.Heaps.{shared}
-use Rattle.jo_meaning.specs.State.{Next, Scope, unless_fault, asks, made_in, found_in, flag_in, variable_of, value_at, with_value_at}
+use Rattle.jo_meaning.specs.State.{Next, Environment, unless_fault, asks, made_in, found_in, flag_in, variable_of, value_at, with_value_at}
 use Rattle.jo_meaning.specs.Values.{is_falsy, apply, apply_unary, object_in}
 use Rattle.jo_meaning.specs.Keys.{key_in, name_value, prop_value}
 
@@ -46,7 +46,7 @@ constant_value keyword.While = value.Undefined
 -- or a property by its base and key
 pub data Reference : Type 0 where
   plain : (v : Value) → Reference
-  slot : (variable : Option ℕ) → Reference
+  named : (variable : Option ℕ) → Reference
   property : (base : Value) (key : Value) → Reference
 
 module _ (texts : Table) where
@@ -57,13 +57,13 @@ module _ (texts : Table) where
   -- the value of what is referred to (GetValue)
   abbrev pub get_value : Reference → Giving Value
   get_value (plain v) next = next v
-  get_value (slot x) next = λ s. next (value_at x s) s
+  get_value (named x) next = λ s. next (value_at x s) s
   get_value (property base key) next = on_property base key (λ o k. asks (call.Get o k) (λ reply. next (found_in reply)))
 
   -- gives what is referred to a value (PutValue); no accepted script assigns to a value alone
   abbrev pub put_value : Reference → Value → Next → Next
   put_value (plain v) new next = next
-  put_value (slot x) new next = λ s. next (with_value_at x new s)
+  put_value (named x) new next = λ s. next (with_value_at x new s)
   put_value (property base key) new next = on_property base key (λ o k. asks (call.Put o k new) (λ reply. next))
 
   -- deletes a property; no accepted script deletes anything else
@@ -90,54 +90,54 @@ module _ (texts : Table) where
 
   abbrev mutual
     -- the value of an expression
-    pub evaluates : Scope → Tree → Giving Value
-    evaluates scope (number i) next = next (value.Int i)
-    evaluates scope (literal t) next = next (value.Text t.text)
-    evaluates scope (constant w) next = next (constant_value w)
-    evaluates scope (variable x) next = get_value (slot (variable_of scope x)) next
-    evaluates scope (group e) next = evaluates scope e next
-    evaluates scope (object props comma) next =
-        asks call.New (λ reply. fills scope (made_in reply) props (next (made_in reply)))
-    evaluates scope (cas base key expected desired) next =
-        evaluates scope base (λ b. evaluates scope key (λ k. evaluates scope expected (λ old. evaluates scope desired (λ new.
+    pub evaluates : Environment → Tree → Giving Value
+    evaluates environment (number i) next = next (value.Int i)
+    evaluates environment (literal t) next = next (value.Text t.text)
+    evaluates environment (constant w) next = next (constant_value w)
+    evaluates environment (variable x) next = get_value (named (variable_of environment x)) next
+    evaluates environment (group e) next = evaluates environment e next
+    evaluates environment (object props comma) next =
+        asks call.New (λ reply. fills environment (made_in reply) props (next (made_in reply)))
+    evaluates environment (cas base key expected desired) next =
+        evaluates environment base (λ b. evaluates environment key (λ k. evaluates environment expected (λ old. evaluates environment desired (λ new.
         on_property b k (λ object at. asks (call.Cas object at old new) (λ reply. next (found_in reply)))))))
-    evaluates scope (member e accesses) next =
-        evaluates scope e (λ v. reaches scope (plain v) accesses (λ r. get_value r next))
-    evaluates scope (unary operator e) next = evaluates scope e (λ v. unless_fault (apply_unary texts operator v) next)
-    evaluates scope (delete e) next = refers scope e (λ r. deletes r (next (value.Bool true)))
-    evaluates scope (chain level e links) next = evaluates scope e (λ v. operates_each scope v links next)
-    evaluates scope (choose c a b) next =
-        evaluates scope c (λ v. if is_falsy texts v then evaluates scope b next else evaluates scope a next)
-    evaluates scope (assign operator target e) next =
-        refers scope target (λ r. assigns operator r (evaluates scope e) next)
+    evaluates environment (member e accesses) next =
+        evaluates environment e (λ v. reaches environment (plain v) accesses (λ r. get_value r next))
+    evaluates environment (unary operator e) next = evaluates environment e (λ v. unless_fault (apply_unary texts operator v) next)
+    evaluates environment (delete e) next = refers environment e (λ r. deletes r (next (value.Bool true)))
+    evaluates environment (chain level e links) next = evaluates environment e (λ v. operates_each environment v links next)
+    evaluates environment (choose c a b) next =
+        evaluates environment c (λ v. if is_falsy texts v then evaluates environment b next else evaluates environment a next)
+    evaluates environment (assign operator target e) next =
+        refers environment target (λ r. assigns operator r (evaluates environment e) next)
 
     -- what a target refers to; no accepted script has another one than a variable or a property
-    pub refers : Scope → Tree → Giving Reference
-    refers scope (variable x) next = next (slot (variable_of scope x))
-    refers scope (member e accesses) next = evaluates scope e (λ v. reaches scope (plain v) accesses next)
-    refers scope _ next = next (plain value.Undefined)
+    pub refers : Environment → Tree → Giving Reference
+    refers environment (variable x) next = next (named (variable_of environment x))
+    refers environment (member e accesses) next = evaluates environment e (λ v. reaches environment (plain v) accesses next)
+    refers environment _ next = next (plain value.Undefined)
 
     -- from what is referred to on through the accesses, where each but the last is read
-    pub reaches : Scope → Reference → Accesses → Giving Reference
-    reaches scope r no_accesses next = next r
-    reaches scope r (field name more) next =
-        get_value r (λ base. reaches scope (property base (name_value texts name)) more next)
-    reaches scope r (index e more) next =
-        get_value r (λ base. evaluates scope e (λ key. reaches scope (property base key) more next))
+    pub reaches : Environment → Reference → Accesses → Giving Reference
+    reaches environment r no_accesses next = next r
+    reaches environment r (field name more) next =
+        get_value r (λ base. reaches environment (property base (name_value texts name)) more next)
+    reaches environment r (index e more) next =
+        get_value r (λ base. evaluates environment e (λ key. reaches environment (property base key) more next))
 
     -- puts each property of a literal on its object
-    pub fills : Scope → Value → Props → Next → Next
-    fills scope o no_props next = next
-    fills scope o (prop key e more) next =
-        evaluates scope e (λ v. put_value (property o (prop_value texts key)) v (fills scope o more next))
+    pub fills : Environment → Value → Props → Next → Next
+    fills environment o no_props next = next
+    fills environment o (prop key e more) next =
+        evaluates environment e (λ v. put_value (property o (prop_value texts key)) v (fills environment o more next))
 
     -- the operators of a chain, from left to right
-    pub operates_each : Scope → Value → Links → Giving Value
-    operates_each scope x no_links next = next x
-    operates_each scope x (link operator e more) next =
-        operates operator x (evaluates scope e) (λ v. operates_each scope v more next)
+    pub operates_each : Environment → Value → Links → Giving Value
+    operates_each environment x no_links next = next x
+    operates_each environment x (link operator e more) next =
+        operates operator x (evaluates environment e) (λ v. operates_each environment v more next)
 
   -- the values of several expressions, from left to right (ArgumentListEvaluation)
-  abbrev pub evaluates_each : Scope → List Tree → Giving (List Value)
-  evaluates_each scope [] next = next []
-  evaluates_each scope (e ∷ more) next = evaluates scope e (λ v. evaluates_each scope more (λ values. next (v ∷ values)))
+  abbrev pub evaluates_each : Environment → List Tree → Giving (List Value)
+  evaluates_each environment [] next = next []
+  evaluates_each environment (e ∷ more) next = evaluates environment e (λ v. evaluates_each environment more (λ values. next (v ∷ values)))

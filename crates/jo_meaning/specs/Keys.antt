@@ -5,7 +5,7 @@ use Rattle.jo_value.specs.declared.value.Key.{Key}
 use Rattle.jo_value.specs.declared.value.Key.TheVariants.{Name, Index}
 use Rattle.jo_value.specs.declared.value.Value.{Value}
 use Rattle.jo_value.specs.declared.value.Value.TheVariants as value
-use Rattle.jo_value.specs.Texts.{Table, number_in}
+use Rattle.jo_value.specs.Texts.{Table, id_in}
 use Rattle.jo_tree.specs.Words.{keyword_text}
 use Rattle.jo_tree.specs.declared.word.Name.{Name as Word}
 use Rattle.jo_tree.specs.declared.word.Name.TheVariants as word
@@ -56,14 +56,14 @@ key_in texts _ = Err KeyOutside
 -- ---- words that name properties
 
 -- the number, in the table, of a word that names a property
-abbrev pub name_number : Table → Word → ℕ
-name_number texts (word.Ident x) = x.text.0
-name_number texts (word.Keyword w) = number_in texts (keyword_text w)
-name_number texts (word.Reserved t) = t.0
+abbrev pub name_id : Table → Word → ℕ
+name_id texts (word.Ident x) = x.text.0
+name_id texts (word.Keyword w) = id_in texts (keyword_text w)
+name_id texts (word.Reserved t) = t.0
 
 -- a word that names a property, as a text
 abbrev pub name_value : Table → Word → Value
-name_value texts name = value.Text (record { 0 = name_number texts name })
+name_value texts name = value.Text (record { 0 = name_id texts name })
 
 -- the key of a property of an object literal, as a value
 abbrev pub prop_value : Table → PropKey → Value

@@ -101,15 +101,15 @@ take_turn (suc left) next s = Takes (next (record s { turns = left }))
 -- ---- variables
 
 -- the names that the enclosing blocks declare, the innermost block first, each as the number of its text
-abbrev pub Scope : Type 0
-Scope = List ℕ
+abbrev pub Environment : Type 0
+Environment = List ℕ
 
 -- the number of the variable that a name means: that of the innermost block in which it is declared, if any
 -- Variables are counted from the outermost block on. Nothing is done with them where a block begins:
 -- no accepted script reads a variable before its `let` has run.
-abbrev pub variable_of : Scope → Ident → Option ℕ
+abbrev pub variable_of : Environment → Ident → Option ℕ
 variable_of [] x = None
-variable_of (name ∷ scope) x = if name == x.text.0 then Some (length scope) else variable_of scope x
+variable_of (name ∷ environment) x = if name == x.text.0 then Some (length environment) else variable_of environment x
 
 -- the value of a variable; what is not declared reads as undefined
 abbrev pub value_at : Option ℕ → State → Value

@@ -27,7 +27,7 @@ kept-if h false x y p q = q
 -- a call that is refused leaves the heap as it is, where there is one thread
 pub kept : (h : Heap) (p : ℕ) (c : Call) → Kept h (one h p c)
 kept h p call.New = kept-if h (nat_lt (length (objects_of h p)) MOST_OBJECTS)
-    (with_new_object h p, reply.Made (record { pass = p; number = length (objects_of h p) })) (h, reply.ObjectsSpent) refl refl
+    (with_new_object h p, reply.Made (record { pass = p; serial = length (objects_of h p) })) (h, reply.ObjectsSpent) refl refl
 kept h p (call.Get o k) = refl
 kept h p (call.Has o k) = refl
 kept h p (call.Names o) = refl

@@ -15,7 +15,7 @@ use Rattle.jo_model.specs.Plain.{put_in}
 
 -- an object put back as it was
 same_object : (heap : Heap) (o : ObjId) → with_object heap o (object_of heap o) ≡ heap
-same_object heap o = ap (slice_set heap o.pass) (set-get_or (objects_of heap o.pass) o.number empty_object) ∙ set-get_or heap o.pass _
+same_object heap o = ap (slice_set heap o.pass) (set-get_or (objects_of heap o.pass) o.serial empty_object) ∙ set-get_or heap o.pass _
 
 -- the heap with what became of an object, and the reply
 abbrev in_heap : Heap → ObjId → Object × Reply → Heap × Reply

@@ -168,7 +168,7 @@ one_is_not_minus_one = refl
 
 -- objects of two passes differ, whatever their numbers
 pub objects_of_two_passes_differ :
-    is_strictly_equal (value.Object (record { pass = 1; number = 0 })) (value.Object shared) ≡ false
+    is_strictly_equal (value.Object (record { pass = 1; serial = 0 })) (value.Object shared) ≡ false
 objects_of_two_passes_differ = refl
 
 -- a delete of an index closes up the elements
@@ -232,13 +232,13 @@ indexes_stand_in_rising_order = refl
 -- New gives the next number of its own pass, and that object is empty
 pub new_gives_the_next_number :
     one ((three ∷ []) ∷ (three ∷ three ∷ []) ∷ [] ∷ []) 1 call.New
-    ≡ ((three ∷ []) ∷ (three ∷ three ∷ empty_object ∷ []) ∷ [] ∷ [], reply.Made (record { pass = 1; number = 2 }))
+    ≡ ((three ∷ []) ∷ (three ∷ three ∷ empty_object ∷ []) ∷ [] ∷ [], reply.Made (record { pass = 1; serial = 2 }))
 new_gives_the_next_number = refl
 
 -- after 4,095 objects one more is made, with the last number
 pub the_last_object_is_made :
     (one ((three ∷ []) ∷ replicate 4095 empty_object ∷ []) 1 call.New).1
-    ≡ reply.Made (record { pass = 1; number = 4095 })
+    ≡ reply.Made (record { pass = 1; serial = 4095 })
 the_last_object_is_made = refl
 
 -- after 4,096 objects no more is made
@@ -256,9 +256,9 @@ found n = reply.Found (number n)
 -- the heap after three changes: an object of pass 1, a name on it, and the object under a name of the shared one
 pub three_changes_make_an_object_and_share_it :
     after 3 (record { pass = 1; call = call.New }
-    ∷ record { pass = 1; call = call.Put (record { pass = 1; number = 0 }) (name 4) (number 7) }
-    ∷ record { pass = 2; call = call.Put shared (name 5) (value.Object (record { pass = 1; number = 0 })) } ∷ [])
-    ≡ ((object (named 5 (value.Object (record { pass = 1; number = 0 })) ∷ []) [] ∷ [])
+    ∷ record { pass = 1; call = call.Put (record { pass = 1; serial = 0 }) (name 4) (number 7) }
+    ∷ record { pass = 2; call = call.Put shared (name 5) (value.Object (record { pass = 1; serial = 0 })) } ∷ [])
+    ≡ ((object (named 5 (value.Object (record { pass = 1; serial = 0 })) ∷ []) [] ∷ [])
     ∷ (object (named 4 (number 7) ∷ []) [] ∷ []) ∷ [] ∷ [])
 three_changes_make_an_object_and_share_it = refl
 
@@ -277,7 +277,7 @@ pub a_delete_of_a_name_that_is_there_is_a_change :
 a_delete_of_a_name_that_is_there_is_a_change = refl
 
 -- a New that makes an object is a change
-pub a_new_object_is_a_change : is_change (heap_of three) call.New (reply.Made (record { pass = 1; number = 0 })) ≡ true
+pub a_new_object_is_a_change : is_change (heap_of three) call.New (reply.Made (record { pass = 1; serial = 0 })) ≡ true
 a_new_object_is_a_change = refl
 
 -- a New that is refused is none
@@ -440,11 +440,11 @@ pub a_text_stands_once_in_a_table : xyz ≡ codes "x" ∷ codes "y" ∷ codes "z
 a_text_stands_once_in_a_table = refl
 
 -- a line of values of each kind
-pub a_line_has_each_value_behind_a_blank :
-    line_of xyz (value.Undefined ∷ value.Null ∷ value.Bool true ∷ value.Int (negsuc 6) ∷ text 1 ∷ value.Object (record { pass = 2; number = 30 }) ∷ [])
+pub a_line_has_each_value_after_a_blank :
+    line_of xyz (value.Undefined ∷ value.Null ∷ value.Bool true ∷ value.Int (negsuc 6) ∷ text 1 ∷ value.Object (record { pass = 2; serial = 30 }) ∷ [])
     ≡ codes "undefined null true -7 y #2.30"
 unfolding digits
-a_line_has_each_value_behind_a_blank = refl
+a_line_has_each_value_after_a_blank = refl
 
 -- a line of two values has one blank
 pub a_line_of_two_values_has_one_blank : line_of xyz (number 10 ∷ value.Bool false ∷ []) ≡ codes "10 false"
@@ -455,7 +455,7 @@ a_line_of_two_values_has_one_blank = refl
 pub a_line_of_no_value_is_empty : line_of xyz [] ≡ []
 a_line_of_no_value_is_empty = refl
 
--- indexes come before names, and a quote and a backslash in a text stand each behind a backslash
+-- indexes come before names, and a quote and a backslash in a text stand each after a backslash
 pub an_object_line_escapes_quotes_and_backslashes :
     object_line (codes "a\"b\\" ∷ []) 1 (3, object (named 0 (text 0) ∷ []) ((0, number 4) ∷ (12, value.Null) ∷ []))
     ≡ codes "#1.3 {0: 4, 12: null, \"a\\\"b\\\\\": \"a\\\"b\\\\\"}\n"
@@ -473,10 +473,10 @@ pub a_name_without_a_text_reads_as_the_empty_text :
 unfolding digits
 a_name_without_a_text_reads_as_the_empty_text = refl
 
--- each line of a script stands behind its number, an empty one too
-pub lines_stand_behind_the_number : run_text 3 (codes "a b\n\nc\n") (outcome_text outcome.OutputFull) ≡ codes "3| a b\n3| \n3| c\n3= OutputFull\n"
+-- each line of a script stands after its number, an empty one too
+pub lines_stand_after_the_number : run_text 3 (codes "a b\n\nc\n") (outcome_text outcome.OutputFull) ≡ codes "3| a b\n3| \n3| c\n3= OutputFull\n"
 unfolding digits
-lines_stand_behind_the_number = refl
+lines_stand_after_the_number = refl
 
 -- a script that printed nothing has the line of its outcome alone
 pub no_line_stands_before_the_outcome : run_text 1 [] (outcome_text outcome.Done) ≡ codes "1= done\n"

@@ -9,7 +9,7 @@ Heap = List (List Object)
 
 -- object 0.0, which every script sees
 abbrev pub shared : ObjId
-shared = record { pass = 0; number = 0 }
+shared = record { pass = 0; serial = 0 }
 
 -- at the start pass 0 has one object, which is empty, and no other pass has any
 abbrev pub heap_at_start : ℕ → Heap
@@ -21,15 +21,15 @@ objects_of heap pass = slice_index_or heap pass []
 
 -- an object is there
 abbrev pub IsBorn : Heap → ObjId → Type 0
-IsBorn heap o = o.number < length (objects_of heap o.pass)
+IsBorn heap o = o.serial < length (objects_of heap o.pass)
 
 -- the object with a name; an empty one where it is not there
 abbrev pub object_of : Heap → ObjId → Object
-object_of heap o = slice_index_or (objects_of heap o.pass) o.number empty_object
+object_of heap o = slice_index_or (objects_of heap o.pass) o.serial empty_object
 
 -- the heap with another content of an object that is there
 abbrev pub with_object : Heap → ObjId → Object → Heap
-with_object heap o object = slice_set heap o.pass (slice_set (objects_of heap o.pass) o.number object)
+with_object heap o object = slice_set heap o.pass (slice_set (objects_of heap o.pass) o.serial object)
 
 -- the heap with one more, empty object of a pass
 abbrev pub with_new_object : Heap → ℕ → Heap

@@ -50,7 +50,7 @@ abbrev pub with_value : Object → Key → Value → Object
 with_value o (Name name) value = record o { names = slice_set o.names (name_place o name) (name, value) }
 with_value o (Index index) value = record o { elements = slice_set o.elements (element_place o index) (index, value) }
 
--- the object with a property that was not there (CreateDataProperty): a name goes last, an index goes behind the lower ones
+-- the object with a property that was not there (CreateDataProperty): a name goes last, an index goes after the lower ones
 abbrev pub with_property : Object → Key → Value → Object
 with_property o (Name name) value = record o { names = o.names ++ (name, value) ∷ [] }
 with_property o (Index index) value =

@@ -20,7 +20,7 @@ is_found_as (Some found) expected = is_strictly_equal found expected
 abbrev pub one : Heap → ℕ → Call → Heap × Reply
 one heap pass call.New =
     if nat_lt (length (objects_of heap pass)) MOST_OBJECTS
-    then (with_new_object heap pass, Made (record { pass = pass; number = length (objects_of heap pass) }))
+    then (with_new_object heap pass, Made (record { pass = pass; serial = length (objects_of heap pass) }))
     else (heap, ObjectsSpent)
 one heap pass (call.Get o key) = (heap, Found (value_of (object_of heap o) key))
 one heap pass (call.Has o key) = (heap, Flag (has_property (object_of heap o) key))

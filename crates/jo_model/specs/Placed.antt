@@ -50,7 +50,7 @@ abbrev pub IsLawfulPlaced : ℕ → List HeapChange → ℕ → PlacedCall → T
 IsLawfulPlaced passes changes pass p =
     IsPlacedChange passes changes pass p ⊎ IsPlacedUnchanging passes changes pass p ⊎ IsPlacedRefusal changes pass p
 
--- The calls of a pass stand in its own order: places never fall, and the call after a change stands behind it.
+-- The calls of a pass stand in its own order: places never fall, and the call after a change stands after it.
 -- `least` is the least place that the next call may have.
 abbrev pub IsInOwnOrder : ℕ → List HeapChange → ℕ → List PlacedCall → Type 0
 IsInOwnOrder passes changes least [] = Unit {0}
@@ -76,7 +76,7 @@ weave_from place heap (c ∷ changes) calls =
     ++ record { pass = c.pass; call = c.call; reply = (one heap c.pass c.call).1 }
     ∷ weave_from (place + 1) (one heap c.pass c.call).0 changes calls
 
--- The history of changes and of the placed calls of each pass: a call that is no change stands behind as many
+-- The history of changes and of the placed calls of each pass: a call that is no change stands after as many
 -- changes as its place says. At one place the calls go by number of pass, and then in the order of the pass.
 -- A placed call that is a change is not repeated: the entry at its place stands for it, with the reply of one thread.
 abbrev pub weave : List HeapChange → List (List PlacedCall) → History

@@ -15,10 +15,10 @@ IsName (Name name) = Unit {0}
 IsName _ = ⊥
 
 -- the call is built: a Get or a Put of a name
-abbrev pub IsBuilt : Call → Type 0
-IsBuilt (Get o key) = IsName key
-IsBuilt (Put o key value) = IsName key
-IsBuilt _ = ⊥
+abbrev pub IsServed : Call → Type 0
+IsServed (Get o key) = IsName key
+IsServed (Put o key value) = IsName key
+IsServed _ = ⊥
 
 -- an object after a Put, and the reply
 abbrev pub put_in : Object → Key → Value → Object × Reply

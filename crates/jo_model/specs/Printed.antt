@@ -11,7 +11,7 @@ abbrev pub text_in : Table → ℕ → List ℕ
 text_in texts id = unwrap_or (slice_get texts id) []
 
 abbrev pub object_text : ObjId → List ℕ
-object_text o = codes "#" ++ decimal o.pass ++ codes "." ++ decimal o.number
+object_text o = codes "#" ++ decimal o.pass ++ codes "." ++ decimal o.serial
 
 -- the text of a value in a line
 abbrev pub value_text : Table → Value → List ℕ

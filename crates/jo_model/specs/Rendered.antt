@@ -51,7 +51,7 @@ name_text texts p = quoted (text_in texts p.0.0) ++ codes ": " ++ property_value
 -- the line of an object: indexes in rising order, then names in order of creation
 abbrev pub object_line : Table → ℕ → ℕ × Object → List ℕ
 object_line texts pass o =
-    object_text (record { pass = pass; number = o.0 }) ++ codes " {"
+    object_text (record { pass = pass; serial = o.0 }) ++ codes " {"
     ++ joined (codes ", ") (map (element_text texts) o.1.elements ++ map (name_text texts) o.1.names)
     ++ codes "}\n"
 

@@ -32,7 +32,7 @@ impl PlainHeap {
     ghost use Rattle.jo_model.specs.Heaps.{heap_at_start, objects_of, object_of, with_object, IsBorn};
     ghost use Rattle.jo_model.specs.One.{one};
     ghost use Rattle.jo_model.specs.Calls.{IsOnBornObject};
-    ghost use Rattle.jo_model.specs.Plain.{IsBuilt, IsName, put_in};
+    ghost use Rattle.jo_model.specs.Plain.{IsServed, IsName, put_in};
 
     /// The heap of so many passes at the start: object 0.0 alone, without properties.
     pub fn new(alloc: Global, passes: u8) -> Result<PlainHeap, AllocError>
@@ -52,7 +52,7 @@ impl PlainHeap {
     pub fn call(&mut self, pass: u8, call: Call) -> Result<Reply, AllocError>
         requires pass { pass < length self.old }
         requires object { IsOnBornObject self.old call }
-        requires built { IsBuilt call }
+        requires built { IsServed call }
         ensures ok { IfOk result (λ reply. one self.old pass call ≡ (self.new, reply)) }
         ensures err { OnErr result (self.new ≡ self.old) }
     {
@@ -71,7 +71,7 @@ impl PlainHeap {
         requires { IsBorn self.now o }
         ensures { result.now ≡ object_of self.now o }
     {
-        &self.objects_of(o.pass)[usize::from(o.number)]
+        &self.objects_of(o.pass)[usize::from(o.serial)]
     }
 
     // Sets a property of an object that is there.
@@ -83,7 +83,7 @@ impl PlainHeap {
         ensures err { OnErr result (self.new ≡ self.old) }
     {
         let pass = &mut self.passes[usize::from(o.pass)];
-        pass.put(o.number, key, value)
+        pass.put(o.serial, key, value)
     }
 
     /// How many passes the heap has.

@@ -3,8 +3,8 @@ use Rattle.std.proofs.Common.{◌≡◌, ℕ, List, [], ◌∷◌, ◌++◌, ref
 use Rattle.std.specs.Prelude.{nat_eq, ◌||◌, if◌then◌else◌}
 use Rattle.jo_tree.specs.declared.word.Ident.{Ident}
 use Rattle.jo_tree.specs.Blocks.{names_of, declared_in, declared_by}
-use Rattle.jo_tree.specs.Trees.{Binding, Head, declares, begins, Statement, empty, block, when, either, while, for, break, continue, print, print_names, run, Items, no_items, declare, perform}
-use Rattle.jo_grammar.specs.Declarations.{Scope, Found, at_beginning, at_end, behind, behind_all, is_among, is_bound, uses_of, uses_of_optional, uses_of_all, twice, undeclared, faults_of_uses, faults_of_name, faults_of_bindings, faults_of_head, faults_of, faults_of_items}
+use Rattle.jo_tree.specs.Trees.{Binding, Head, declares, begins, Statement, empty, block, when, either, while, for, break, continue, print, print_names, evaluate, Items, no_items, declare, perform}
+use Rattle.jo_grammar.specs.Declarations.{Scope, Found, at_beginning, at_end, scope_after, scope_after_all, is_among, is_bound, uses_of, uses_of_optional, uses_of_all, twice, undeclared, faults_of_uses, faults_of_name, faults_of_bindings, faults_of_head, faults_of, faults_of_items}
 use Rattle.jo_names.specs.Blocks.{IsAlike}
 
 -- uses mean the same in both
@@ -26,12 +26,12 @@ binds-inside s t ss ts a same name =
     ∙ (ap (λ b. if is_among t.names name then b else is_bound ss name) (a.1 name)
     ∙ ap (λ b. if is_among t.names name then is_among t.ended name else b) (same name))
 
-pub behind-alike : (s t : Scope) (x : Ident) → IsAlike s t → IsAlike (behind s x) (behind t x)
-behind-alike s t x a = (a.0, (λ name. ap (λ b. nat_eq x.text.0 name || b) (a.1 name)))
+pub scope_after-alike : (s t : Scope) (x : Ident) → IsAlike s t → IsAlike (scope_after s x) (scope_after t x)
+scope_after-alike s t x a = (a.0, (λ name. ap (λ b. nat_eq x.text.0 name || b) (a.1 name)))
 
-pub behind_all-alike : (s t : Scope) (bindings : List Binding) → IsAlike s t → IsAlike (behind_all s bindings) (behind_all t bindings)
-behind_all-alike s t [] a = a
-behind_all-alike s t (b ∷ bindings) a = behind_all-alike (behind s b.0) (behind t b.0) bindings (behind-alike s t b.0 a)
+pub scope_after_all-alike : (s t : Scope) (bindings : List Binding) → IsAlike s t → IsAlike (scope_after_all s bindings) (scope_after_all t bindings)
+scope_after_all-alike s t [] a = a
+scope_after_all-alike s t (b ∷ bindings) a = scope_after_all-alike (scope_after s b.0) (scope_after t b.0) bindings (scope_after-alike s t b.0 a)
 
 pub uses-same : (ss ts : List Scope) (uses : List Ident) → BindsSame ss ts → faults_of_uses ss uses ≡ faults_of_uses ts uses
 uses-same ss ts [] same = refl
@@ -49,7 +49,7 @@ pub bindings-same : (s t : Scope) (ss ts : List Scope) (bindings : List Binding)
 bindings-same s t ss ts [] a same = refl
 bindings-same s t ss ts (b ∷ bindings) a same =
     two (name-same s t b.0 a) (two (uses-same (s ∷ ss) (t ∷ ts) (uses_of_optional b.1) (binds-inside s t ss ts a same))
-    (bindings-same (behind s b.0) (behind t b.0) ss ts bindings (behind-alike s t b.0 a) same))
+    (bindings-same (scope_after s b.0) (scope_after t b.0) ss ts bindings (scope_after-alike s t b.0 a) same))
 
 pub head-same : (ss ts : List Scope) (head : Head) → BindsSame ss ts → faults_of_head ss head ≡ faults_of_head ts head
 head-same ss ts (declares bindings) same = bindings-same (at_beginning (names_of bindings)) (at_beginning (names_of bindings)) ss ts bindings (alike (at_beginning (names_of bindings))) same
@@ -71,11 +71,11 @@ mutual
   faults-same ss ts continue same = refl
   faults-same ss ts (print es) same = uses-same ss ts (uses_of_all es) same
   faults-same ss ts (print_names e) same = uses-same ss ts (uses_of e) same
-  faults-same ss ts (run e) same = uses-same ss ts (uses_of e) same
+  faults-same ss ts (evaluate e) same = uses-same ss ts (uses_of e) same
 
   pub items-same : (s t : Scope) (ss ts : List Scope) (items : Items) → IsAlike s t → BindsSame ss ts → faults_of_items s ss items ≡ faults_of_items t ts items
   items-same s t ss ts no_items a same = refl
   items-same s t ss ts (declare bindings items) a same =
-      two (bindings-same s t ss ts bindings a same) (items-same (behind_all s bindings) (behind_all t bindings) ss ts items (behind_all-alike s t bindings a) same)
+      two (bindings-same s t ss ts bindings a same) (items-same (scope_after_all s bindings) (scope_after_all t bindings) ss ts items (scope_after_all-alike s t bindings a) same)
   items-same s t ss ts (perform statement items) a same =
       two (faults-same (s ∷ ss) (t ∷ ts) statement (binds-inside s t ss ts a same)) (items-same s t ss ts items a same)

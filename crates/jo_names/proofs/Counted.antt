@@ -24,16 +24,16 @@ put-all-front : (names rest old : List ℕ) (n : ℕ) → is_among (rest ++ (nam
 put-all-front [] rest old n = refl
 put-all-front (x ∷ names) rest old n = put-front x rest (names ++ old) n ∙ ap (λ b. nat_eq x n || b) (put-all-front names rest old n)
 
-behind-same : (rest names others : List ℕ) → HasSame names others → HasSame (rest ++ names) (rest ++ others)
-behind-same [] names others same n = same n
-behind-same (x ∷ rest) names others same n = ap (λ b. nat_eq x n || b) (behind-same rest names others same n)
+scope_after-same : (rest names others : List ℕ) → HasSame names others → HasSame (rest ++ names) (rest ++ others)
+scope_after-same [] names others same n = same n
+scope_after-same (x ∷ rest) names others same n = ap (λ b. nat_eq x n || b) (scope_after-same rest names others same n)
 
 pub declares-turn : (s t new : Scope) (bindings : List Binding) (i : ℕ) (b : Binding) → i < length bindings → b ≡ get_or bindings i b
     → IsAlike (with_names s (names_of (bindings_list (drop i bindings)))) t → Declares s b.ident.text.0 new
     → IsAlike (with_names new (names_of (bindings_list (drop (i + 1) bindings)))) t
 declares-turn s t new bindings i b below is h d =
     let rest = names_of (bindings_list (drop (i + 1) bindings)) in (
-      (λ n. behind-same rest new.names (b.ident.text.0 ∷ s.names) d.0 n ∙ (put-front b.ident.text.0 rest s.names n
+      (λ n. scope_after-same rest new.names (b.ident.text.0 ∷ s.names) d.0 n ∙ (put-front b.ident.text.0 rest s.names n
           ∙ (ap (λ v. is_among (names_of (bindings_list v) ++ s.names) n) (sym (drop-at bindings i b below is)) ∙ h.0 n))),
       (λ n. d.1 n ∙ h.1 n),
     )
@@ -48,7 +48,7 @@ pub items-declare-turn : (s t new : Scope) (items : List Item) (i : ℕ) (x : It
 items-declare-turn s t new items i x below is h d =
     let rest = declared_in (items_list (drop (i + 1) items)) in
     let whole = ap (λ v. declared_in (items_list v)) (drop-at items i x below is) ∙ declared_in-item x (drop (i + 1) items) in (
-      (λ n. behind-same rest new.names (item_names x ++ s.names) d.0 n ∙ (put-all-front (item_names x) rest s.names n
+      (λ n. scope_after-same rest new.names (item_names x ++ s.names) d.0 n ∙ (put-all-front (item_names x) rest s.names n
           ∙ (ap (λ v. is_among (v ++ s.names) n) (sym whole) ∙ h.0 n))),
       (λ n. d.1 n ∙ h.1 n),
     )

@@ -7,9 +7,9 @@ use Rattle.jo_tree.specs.Blocks.{names_of}
 use Rattle.jo_tree.specs.Trees.{Binding}
 use Rattle.jo_tree.specs.ScriptViews.{items_list, option_tree, statement_tree}
 use Rattle.jo_tree.proofs.ScriptShapes.{script_shapes, statement_tree-block}
-use Rattle.jo_grammar.specs.Declarations.{Scope, at_beginning, at_end, behind, behind_all, is_among, is_bound, uses_of_optional, faults_of, faults_of_uses, faults_of_bindings, faults_of_items}
+use Rattle.jo_grammar.specs.Declarations.{Scope, at_beginning, at_end, scope_after, scope_after_all, is_among, is_bound, uses_of_optional, faults_of, faults_of_uses, faults_of_bindings, faults_of_items}
 use Rattle.jo_names.specs.Blocks.{Scopes, all_of, IsAlike, Enters, Moves, round_faults}
-use Rattle.jo_names.proofs.Alike.{BindsSame, alike_then, binds-inside, bindings-same, behind_all-alike, items-same, uses-same, faults-same}
+use Rattle.jo_names.proofs.Alike.{BindsSame, alike_then, binds-inside, bindings-same, scope_after_all-alike, items-same, uses-same, faults-same}
 use Rattle.jo_names.proofs.Counted.{put-front}
 
 pub enters : (scopes new : Scopes) (block scope : Scope) → new ≡ (block, all_of scopes) → IsAlike block scope → Enters scopes scope new
@@ -36,26 +36,26 @@ round-entered scopes inner scope x h =
     sym (ap (λ v. v ++ faults_of (all_of inner) (statement_tree x.body)) (uses-same (all_of inner) (scope ∷ all_of scopes) uses same)
     ∙ ap (λ v. faults_of_uses (scope ∷ all_of scopes) uses ++ v) (faults-same (all_of inner) (scope ∷ all_of scopes) (statement_tree x.body) same))
 
--- ---- behind all bindings of the head of a `for`
+-- ---- after all bindings of the head of a `for`
 
-behind_all-names : (s : Scope) (bindings : List Binding) (n : ℕ) → is_among (behind_all s bindings).names n ≡ is_among s.names n
-behind_all-names s [] n = refl
-behind_all-names s (b ∷ bindings) n = behind_all-names (behind s b.0) bindings n
+scope_after_all-names : (s : Scope) (bindings : List Binding) (n : ℕ) → is_among (scope_after_all s bindings).names n ≡ is_among s.names n
+scope_after_all-names s [] n = refl
+scope_after_all-names s (b ∷ bindings) n = scope_after_all-names (scope_after s b.0) bindings n
 
-behind_all-ended : (s : Scope) (bindings : List Binding) (n : ℕ) → is_among (behind_all s bindings).ended n ≡ is_among (names_of bindings ++ s.ended) n
-behind_all-ended s [] n = refl
-behind_all-ended s (b ∷ bindings) n = behind_all-ended (behind s b.0) bindings n ∙ put-front b.0.text.0 (names_of bindings) s.ended n
+scope_after_all-ended : (s : Scope) (bindings : List Binding) (n : ℕ) → is_among (scope_after_all s bindings).ended n ≡ is_among (names_of bindings ++ s.ended) n
+scope_after_all-ended s [] n = refl
+scope_after_all-ended s (b ∷ bindings) n = scope_after_all-ended (scope_after s b.0) bindings n ∙ put-front b.0.text.0 (names_of bindings) s.ended n
 
-all-ended : (bindings : List Binding) → IsAlike (behind_all (at_beginning (names_of bindings)) bindings) (at_end (names_of bindings))
+all-ended : (bindings : List Binding) → IsAlike (scope_after_all (at_beginning (names_of bindings)) bindings) (at_end (names_of bindings))
 all-ended bindings =
     let s = at_beginning (names_of bindings) in
-    ((λ n. behind_all-names s bindings n), (λ n. behind_all-ended s bindings n ∙ ap (λ v. is_among v n) (append-nil (names_of bindings))))
+    ((λ n. scope_after_all-names s bindings n), (λ n. scope_after_all-ended s bindings n ∙ ap (λ v. is_among v n) (append-nil (names_of bindings))))
 
-pub head-ended : (scopes inner new : Scopes) (bindings : List Binding) → Enters scopes (at_beginning (names_of bindings)) inner → Moves inner (behind_all inner.0 bindings) new → Enters scopes (at_end (names_of bindings)) new
+pub head-ended : (scopes inner new : Scopes) (bindings : List Binding) → Enters scopes (at_beginning (names_of bindings)) inner → Moves inner (scope_after_all inner.0 bindings) new → Enters scopes (at_end (names_of bindings)) new
 head-ended scopes inner new bindings h moves =
     let s = at_beginning (names_of bindings) in (
-      alike_then new.0 (behind_all inner.0 bindings) (at_end (names_of bindings)) moves.0
-          (alike_then (behind_all inner.0 bindings) (behind_all s bindings) (at_end (names_of bindings)) (behind_all-alike inner.0 s bindings h.0) (all-ended bindings)),
+      alike_then new.0 (scope_after_all inner.0 bindings) (at_end (names_of bindings)) moves.0
+          (alike_then (scope_after_all inner.0 bindings) (scope_after_all s bindings) (at_end (names_of bindings)) (scope_after_all-alike inner.0 s bindings h.0) (all-ended bindings)),
       moves.1 ∙ h.1,
     )
 

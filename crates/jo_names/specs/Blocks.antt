@@ -9,7 +9,7 @@ use Rattle.jo_tree.specs.declared.script.Item.TheVariants as i
 use Rattle.jo_lex.specs.declared.refusal.ParseFault.{ParseFault}
 use Rattle.jo_lex.specs.declared.refusal.Refusal.{Refusal}
 use Rattle.jo_lex.specs.declared.refusal.ParseFault.TheVariants.{Memory, Refused}
-use Rattle.jo_grammar.specs.Declarations.{Scope, is_among, behind_all, Found, uses_of_optional, faults_of, faults_of_bindings, faults_of_name, faults_of_uses}
+use Rattle.jo_grammar.specs.Declarations.{Scope, is_among, scope_after_all, Found, uses_of_optional, faults_of, faults_of_bindings, faults_of_name, faults_of_uses}
 use Rattle.jo_grammar.specs.NameRefusals.{refusal_for}
 
 -- both have the same names
@@ -70,14 +70,14 @@ abbrev pub item_faults : Scopes → Item → List Found
 item_faults scopes (i.Let l) = faults_of_bindings scopes.0 scopes.1 (let_list l)
 item_faults scopes (i.Statement x) = faults_of (all_of scopes) (statement_tree x)
 
--- the faults behind the head of a `for`, in its block and those around it
+-- the faults after the head of a `for`, in its block and those around it
 abbrev pub round_faults : List Scope → For → List Found
 round_faults scopes x = faults_of_uses scopes (uses_of_optional (option_tree x.condition) ++ uses_of_optional (option_tree x.step)) ++ faults_of scopes (statement_tree x.body)
 
--- the block behind an item of it
-abbrev pub behind_item : Scope → Item → Scope
-behind_item scope (i.Let l) = behind_all scope (let_list l)
-behind_item scope (i.Statement x) = scope
+-- the block after an item of it
+abbrev pub scope_after_item : Scope → Item → Scope
+scope_after_item scope (i.Let l) = scope_after_all scope (let_list l)
+scope_after_item scope (i.Statement x) = scope
 
 -- the refusal for the first of these faults, where there is one
 abbrev pub answer_to : List Found → Result (Unit {0}) Refusal

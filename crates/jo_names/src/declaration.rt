@@ -1,6 +1,6 @@
 // Declarations of variables.
 ghost use Rattle.std.specs.Prelude.{◌≡◌, OnOk};
-ghost use Rattle.jo_grammar.specs.Declarations.{behind_all, faults_of_bindings, faults_of_name, faults_of_uses, uses_of_optional};
+ghost use Rattle.jo_grammar.specs.Declarations.{scope_after_all, faults_of_bindings, faults_of_name, faults_of_uses, uses_of_optional};
 ghost use Rattle.jo_names.specs.Blocks.{Ends, Judges, Moves, all_of, answer_to, binding_faults, refused};
 ghost use Rattle.jo_tree.specs.ScriptViews.{binding_tree, bindings_list, option_tree};
 
@@ -65,7 +65,7 @@ impl Scopes {
     /// The declarations of a `let` of the innermost block.
     pub(crate) fn bindings(&mut self, bindings: &[Binding]) -> Result<(), ParseFault>
         ensures judged { Judges (faults_of_bindings self.old.0 self.old.1 (bindings_list bindings.now)) result }
-        ensures moved { OnOk result (Moves self.old (behind_all self.old.0 (bindings_list bindings.now)) self.new) }
+        ensures moved { OnOk result (Moves self.old (scope_after_all self.old.0 (bindings_list bindings.now)) self.new) }
     {
         for binding in bindings {
             self.binding(binding)?;

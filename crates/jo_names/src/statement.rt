@@ -1,7 +1,7 @@
 // Statements, and the items of blocks.
 ghost use Rattle.std.specs.Prelude.{◌≡◌, ◌++◌, OnOk};
 ghost use Rattle.jo_grammar.specs.Declarations.{at_beginning, at_end, faults_of, faults_of_head, faults_of_items, faults_of_uses, uses_of, uses_of_all, uses_of_optional};
-ghost use Rattle.jo_names.specs.Blocks.{Enters, Judges, Moves, all_of, answer_to, behind_item, item_faults, round_faults};
+ghost use Rattle.jo_names.specs.Blocks.{Enters, Judges, Moves, all_of, answer_to, scope_after_item, item_faults, round_faults};
 ghost use Rattle.jo_tree.specs.Blocks.{declared_by, declared_in, names_of};
 ghost use Rattle.jo_tree.specs.ScriptViews.{bindings_list, head_tree, if_tree, items_list, option_tree, optional_statement, statement_tree, trees_list};
 ghost use Rattle.jo_tree.specs.Trees.{declares, for, while};
@@ -73,7 +73,7 @@ impl Scopes {
         self.bindings(bindings)
     }
 
-    // Goes into the block of a `for`, and behind the first part of its head.
+    // Goes into the block of a `for`, and after the first part of its head.
     #[tactic(auto, using(crate::proofs::Stated::entering))]
     fn head(&mut self, head: &ForHead) -> Result<(), ParseFault>
         ensures judged { Judges (faults_of_head (all_of self.old) (head_tree head.now)) result }
@@ -139,7 +139,7 @@ impl Scopes {
         Ok(())
     }
 
-    // What stands behind the head of a `for`.
+    // What stands after the head of a `for`.
     #[cycle(statements)]
     fn round(&mut self, repeat: &For) -> Result<(), ParseFault>
         ensures judged { Judges (round_faults (all_of self.old) repeat.now) result }
@@ -175,7 +175,7 @@ impl Scopes {
     #[cycle(statements)]
     fn item(&mut self, item: &Item) -> Result<(), ParseFault>
         ensures judged { Judges (item_faults self.old item.now) result }
-        ensures moved { OnOk result (Moves self.old (behind_item self.old.0 item.now) self.new) }
+        ensures moved { OnOk result (Moves self.old (scope_after_item self.old.0 item.now) self.new) }
     {
         match item {
             Item::Let(declaration) => self.bindings(declaration.bindings.as_slice()),

@@ -14,7 +14,7 @@ use Rattle.jo_grammar.specs.TokenRefusals.{kind_of}
 use Rattle.jo_grammar.specs.Declarations.{ScopeFault, undeclared, twice, Found, first_of_faults}
 use Rattle.jo_grammar.specs.NameRefusals as judged
 use Rattle.jo_grammar.specs.NameRefusals.{refusal_for}
-use Rattle.jo_grammar.specs.Cuts.{pieces_of}
+use Rattle.jo_grammar.specs.Cuts.{sections_of}
 use Rattle.jo_grammar.specs.Sets.{IsFirstUnread, IsFirstMisspelled, IsCut, IsLexed, IsParsed, IsRefusalOf, faults_of_all}
 use Rattle.jo_parse.specs.Parsed.{IsFault}
 use Rattle.jo_parse.specs.Stages.{IsLexFault, IsTreeFault, IsFirstNameFault}
@@ -22,15 +22,15 @@ use Rattle.jo_parse.proofs.LexFaults.{IsLexKind, is_lex_kind}
 
 -- ---- tokens
 
-unread : (bytes : List ℕ) (refusal : Refusal) (k : RefusalKind) → IsLexKind k → IsCut bytes × IsFirstUnread [] (pieces_of bytes) refusal → IsRefusalOf bytes k refusal
+unread : (bytes : List ℕ) (refusal : Refusal) (k : RefusalKind) → IsLexKind k → IsCut bytes × IsFirstUnread [] (sections_of bytes) refusal → IsRefusalOf bytes k refusal
 unread bytes refusal kind.BadToken is h = h
 unread bytes refusal kind.NumberTooLarge is h = h
 unread bytes refusal kind.TooManyTexts is h = h
 unread bytes refusal _ is h = absurd is
 
-pub lex_fault : (bytes : List ℕ) (fault : ParseFault) → IsCut bytes → IsLexFault [] (pieces_of bytes) fault → IsFault bytes fault
+pub lex_fault : (bytes : List ℕ) (fault : ParseFault) → IsCut bytes → IsLexFault [] (sections_of bytes) fault → IsFault bytes fault
 lex_fault bytes Memory cut h = tt
-lex_fault bytes (Refused refusal) cut h = unread bytes refusal refusal.kind (is_lex_kind [] (pieces_of bytes) refusal h) (cut, h)
+lex_fault bytes (Refused refusal) cut h = unread bytes refusal refusal.kind (is_lex_kind [] (sections_of bytes) refusal h) (cut, h)
 
 -- ---- trees
 

@@ -14,8 +14,8 @@ use Rattle.jo_lex.specs.declared.punct.Punct.{Punct}
 use Rattle.jo_lex.specs.Characters.{Characters, begins_with, is_spoiler, is_word_start, is_word_part, is_digit, is_blank, drop_while}
 use Rattle.jo_lex.specs.Punctuators.{Entry, punctuator_of}
 use Rattle.jo_lex.specs.Pieces.{Lexeme, word, number, text, Piece, gap, lexeme, fault, after_close, closed, comment, limited, word_piece, quoted, text_piece, judged, decimal, number_piece, accepted, punctuator_piece, token_piece, piece}
-use Rattle.jo_lex.specs.Tokens.{State, Next, ended, refused, onward, with_token, taken, next_of, last, kind_of}
-use Rattle.jo_grammar.specs.Cuts as cuts
+use Rattle.jo_lex.specs.Tokens.{Progress, Advance, ended, refused, onward, with_token, taken, next_of, last, token_kind}
+use Rattle.jo_grammar.specs.Cuts.{Section}
 use Rattle.jo_grammar.specs.Sets.{begun, IsFirstUnread}
 
 abbrev pub IsLexKind : RefusalKind → Type 0
@@ -92,26 +92,26 @@ piece-fine c cs =
     fine_if (is_blank c) (gap (drop_while is_blank cs)) (if c == 47 then unwrap_or (comment cs) (token_piece c cs) else token_piece c cs) tt
     (fine_if (c == 47) (unwrap_or (comment cs) (token_piece c cs)) (token_piece c cs) (fine_or (comment cs) (token_piece c cs) (comment-fine cs) (token-fine c cs)) (token-fine c cs))
 
-abbrev FineNext : Next → Type 0
+abbrev FineNext : Advance → Type 0
 FineNext ended = Unit {0}
 FineNext (refused k) = IsLexKind k
 FineNext (onward s) = Unit {0}
 
-with_token-fine : (s : State) (rest : Characters) (o : Option (TokenKind × Table)) → FineNext (with_token s rest o)
+with_token-fine : (s : Progress) (rest : Characters) (o : Option (TokenKind × Table)) → FineNext (with_token s rest o)
 with_token-fine s rest None = tt
 with_token-fine s rest (Some p) = tt
 
-taken-fine : (s : State) (p : Piece) → Fine p → FineNext (taken s p)
+taken-fine : (s : Progress) (p : Piece) → Fine p → FineNext (taken s p)
 taken-fine s (gap rest) f = tt
-taken-fine s (lexeme l rest) f = with_token-fine s rest (kind_of s.table l)
+taken-fine s (lexeme l rest) f = with_token-fine s rest (token_kind s.table l)
 taken-fine s (fault k) f = f
 
-next-fine : (s : State) (cs : Characters) → FineNext (next_of s cs)
+next-fine : (s : Progress) (cs : Characters) → FineNext (next_of s cs)
 next-fine s [] = tt
 next-fine s (c ∷ cs) = taken-fine s (piece c cs) (piece-fine c cs)
 
 -- a script that is not read has a bad token, a number that is too large, or a text too many
-pub is_lex_kind : (texts : Table) (pieces : List cuts.Piece) (refusal : Refusal) → IsFirstUnread texts pieces refusal → IsLexKind refusal.kind
+pub is_lex_kind : (texts : Table) (sections : List Section) (refusal : Refusal) → IsFirstUnread texts sections refusal → IsLexKind refusal.kind
 is_lex_kind texts [] refusal h = absurd h
-is_lex_kind texts (p ∷ pieces) refusal (inl (after, h)) = subst FineNext h.kind_is (next-fine (last (begun texts p)) (last (begun texts p)).rest)
-is_lex_kind texts (p ∷ pieces) refusal (inr (tokens, after, h, g)) = is_lex_kind after pieces refusal g
+is_lex_kind texts (p ∷ sections) refusal (inl (after, h)) = subst FineNext h.kind_is (next-fine (last (begun texts p)) (last (begun texts p)).rest)
+is_lex_kind texts (p ∷ sections) refusal (inr (tokens, after, h, g)) = is_lex_kind after sections refusal g

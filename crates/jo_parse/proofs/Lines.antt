@@ -28,9 +28,9 @@ cut-step : (b : ℕ) (text : List ℕ) (k : Bool) (n : ℕ) → is_feed b ≡ k 
 cut-step b text true n e ih within = lines-feed b text e
 cut-step b text false n e ih within =
     let at : suc n ≡ 1 + n = omega arith in
-    let behind : suc (n + 1) ≡ 1 + n + 1 = omega arith in
+    let after : suc (n + 1) ≡ 1 + n + 1 = omega arith in
     lines-other b text e ∙ ap (with_first b) (ih (omega arith)) ∙ ap (λ k. (take k (b ∷ text) ++ 10 ∷ []) ∷ lines_of (drop (n + 1) text)) at
-    ∙ ap (λ k. (take (1 + n) (b ∷ text) ++ 10 ∷ []) ∷ lines_of (drop k (b ∷ text))) behind
+    ∙ ap (λ k. (take (1 + n) (b ∷ text) ++ 10 ∷ []) ∷ lines_of (drop k (b ∷ text))) after
 
 pub lines-cut : (text : List ℕ) → position_or_len is_feed text < length text → CutAt text (position_or_len is_feed text)
 lines-cut [] within = absurd (omega arith)
@@ -53,7 +53,7 @@ LacksFeedBelow text n = (k : ℕ) → k < n → is_feed (get_or text k 0) ≡ fa
 take-more : (text : List ℕ) (n : ℕ) → n < length text → take n text ++ get_or text n 0 ∷ [] ≡ take (n + 1) text
 take-more text n within = grind (arith, common_steps)
 
--- the first line ends behind the first line feed
+-- the first line ends after the first line feed
 pub ends-at-feed : (text : List ℕ) (n : ℕ) → LacksFeedBelow text n → n < length text → get_or text n 0 ≡ 10 → lines_of text ≡ take (n + 1) text ∷ lines_of (drop (n + 1) text)
 ends-at-feed text n before within e =
     let passes : is_feed (get_or text n 0) ≡ true = rw e refl in

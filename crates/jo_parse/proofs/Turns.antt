@@ -17,9 +17,9 @@ use Rattle.jo_grammar.specs.Statements.{IsScript}
 use Rattle.jo_grammar.specs.Refusals.{IsAccepted}
 use Rattle.jo_grammar.specs.TokenRefusals.{IsFault}
 use Rattle.jo_grammar.specs.Terminals.{terminals_of}
-use Rattle.jo_parse.specs.declared.piece.Piece.{Piece as Part}
-use Rattle.jo_grammar.specs.Cuts.{Piece, AreWithin}
-use Rattle.jo_parse.specs.CutScripts.{piece_of, parts_of}
+use Rattle.jo_parse.specs.declared.section.Section.{Section as Held}
+use Rattle.jo_grammar.specs.Cuts.{Section, AreWithin}
+use Rattle.jo_parse.specs.CutScripts.{section_of, sections_in}
 use Rattle.jo_grammar.specs.Sets.{begun, AreRead, IsFirstUnread, AreScripts, IsMisspelled, IsFirstMisspelled}
 use Rattle.jo_parse.specs.Stages.{IsTreeFault, lists_of}
 use Rattle.jo_parse.proofs.Within.{views_left, none_left}
@@ -27,16 +27,16 @@ use Rattle.jo_parse.proofs.Within.{views_left, none_left}
 -- ---- tokens
 
 -- all scripts are read from a table; up to a rest they are, into lists and a table
-pub record Reads (start : Table) (scripts : List Piece) (here : Table) (rest : List Piece) (done : List (List Token)) : Type 0 where
+pub record Reads (start : Table) (scripts : List Section) (here : Table) (rest : List Section) (done : List (List Token)) : Type 0 where
   pub within : AreWithin MOST_INPUT rest
   pub read : (lists : List (List Token)) (end : Table) → AreRead here rest lists end → AreRead start scripts (done ++ lists) end
   pub unread : (refusal : Refusal) → IsFirstUnread here rest refusal → IsFirstUnread start scripts refusal
 
-pub none_read : (start : Table) (scripts : List Piece) → AreWithin MOST_INPUT scripts → Reads start scripts start scripts []
+pub none_read : (start : Table) (scripts : List Section) → AreWithin MOST_INPUT scripts → Reads start scripts start scripts []
 none_read start scripts w = record { within = w; read = λ lists end h. h; unread = λ refusal h. h }
 
-module _ (start : Table) (scripts : List Piece) (here : Table) (piece : Piece) (rest : List Piece) (done : List (List Token)) where
-  pub one_read : Reads start scripts here (piece ∷ rest) done → (tokens : List Token) (after : Table) → IsRead (begun here piece) tokens after
+module _ (start : Table) (scripts : List Section) (here : Table) (section : Section) (rest : List Section) (done : List (List Token)) where
+  pub one_read : Reads start scripts here (section ∷ rest) done → (tokens : List Token) (after : Table) → IsRead (begun here section) tokens after
       → Reads start scripts after rest (done ++ tokens ∷ [])
   one_read r tokens after h = record {
     within = r.within.1;
@@ -44,29 +44,29 @@ module _ (start : Table) (scripts : List Piece) (here : Table) (piece : Piece) (
     unread = λ refusal g. r.unread refusal (inr (tokens, after, h, g));
   }
 
-  pub one_unread : Reads start scripts here (piece ∷ rest) done → (refusal : Refusal) (after : Table) → lexed.IsRefused (begun here piece) refusal after
+  pub one_unread : Reads start scripts here (section ∷ rest) done → (refusal : Refusal) (after : Table) → lexed.IsRefused (begun here section) refusal after
       → IsFirstUnread start scripts refusal
   one_unread r refusal after h = r.unread refusal (inl (after, h))
 
-pub all_read : (start : Table) (scripts : List Piece) (here : Table) (done : List (List Token)) → Reads start scripts here [] done → AreRead start scripts done here
+pub all_read : (start : Table) (scripts : List Section) (here : Table) (done : List (List Token)) → Reads start scripts here [] done → AreRead start scripts done here
 all_read start scripts here done r = subst (λ v. AreRead start scripts v here) (append-nil done) (r.read [] here refl)
 
--- the same at a turn of the loop, and behind the last
-module _ {Z : Type 0} (start : Table) (scripts : List Piece) (here : Table) (pieces : List Part) (i : ℕ) (lists : List (Vec Token Z)) where
-  pub read_turn : Reads start scripts here (parts_of (drop i pieces)) (lists_of lists) → i < length pieces
-      → (d : Part) (list : Vec Token Z) (after : Table) → IsRead (begun here (piece_of (get_or pieces i d))) list.items after
-      → (longer : List (Vec Token Z)) → longer ≡ lists ++ list ∷ [] → Reads start scripts after (parts_of (drop (i + 1) pieces)) (lists_of longer)
+-- the same at a turn of the loop, and after the last
+module _ {Z : Type 0} (start : Table) (scripts : List Section) (here : Table) (sections : List Held) (i : ℕ) (lists : List (Vec Token Z)) where
+  pub read_turn : Reads start scripts here (sections_in (drop i sections)) (lists_of lists) → i < length sections
+      → (d : Held) (list : Vec Token Z) (after : Table) → IsRead (begun here (section_of (get_or sections i d))) list.items after
+      → (longer : List (Vec Token Z)) → longer ≡ lists ++ list ∷ [] → Reads start scripts after (sections_in (drop (i + 1) sections)) (lists_of longer)
   read_turn r h d list after is longer e =
-      let piece = piece_of (get_or pieces i d) in
-      let rest = parts_of (drop (i + 1) pieces) in
-      let turn = subst (λ v. Reads start scripts here v (lists_of lists)) (views_left piece_of pieces i d h) r in
+      let section = section_of (get_or sections i d) in
+      let rest = sections_in (drop (i + 1) sections) in
+      let turn = subst (λ v. Reads start scripts here v (lists_of lists)) (views_left section_of sections i d h) r in
       let done : lists_of longer ≡ lists_of lists ++ list.items ∷ [] = ap lists_of e ∙ map-append (λ v. v.items) lists (list ∷ []) in
-      subst (λ v. Reads start scripts after rest v) (sym done) (one_read start scripts here piece rest (lists_of lists) turn list.items after is)
+      subst (λ v. Reads start scripts after rest v) (sym done) (one_read start scripts here section rest (lists_of lists) turn list.items after is)
 
-  pub read_end : Reads start scripts here (parts_of (drop i pieces)) (lists_of lists) → length pieces ≤ i → AreRead start scripts (lists_of lists) here
+  pub read_end : Reads start scripts here (sections_in (drop i sections)) (lists_of lists) → length sections ≤ i → AreRead start scripts (lists_of lists) here
   read_end r h =
       all_read start scripts here (lists_of lists)
-      (subst (λ v. Reads start scripts here v (lists_of lists)) (ap parts_of (none_left pieces i h)) r)
+      (subst (λ v. Reads start scripts here v (lists_of lists)) (ap sections_in (none_left sections i h)) r)
 
 -- ---- trees
 
@@ -92,7 +92,7 @@ module _ (texts : Table) (lists : List (List Token)) (tokens : List Token) (rest
 pub all_spelled : (texts : Table) (lists : List (List Token)) (done : List Items) → Spells texts lists [] done → AreScripts texts lists done
 all_spelled texts lists done r = subst (λ v. AreScripts texts lists v) (append-nil done) (r.spelled [] tt)
 
--- the same at a turn of the loop, and behind the last
+-- the same at a turn of the loop, and after the last
 module _ {Z : Type 0} (texts : Table) (all lists : List (Vec Token Z)) (i : ℕ) (scripts : List Script) where
   pub spell_turn : Spells texts (lists_of all) (lists_of (drop i lists)) (map script_tree scripts) → i < length lists
       → (d : Vec Token Z) (script : Script) → IsAccepted IsScript MOST_OPEN (terminals_of texts (get_or lists i d).items) (script_tree script)

@@ -7,7 +7,7 @@ use Rattle.jo_lex.specs.declared.refusal.ParseFault.TheVariants.{Memory, Refused
 use Rattle.jo_tree.specs.Trees.{Items}
 use Rattle.jo_grammar.specs.Declarations.{Found, first_of_faults}
 use Rattle.jo_grammar.specs.NameRefusals.{refusal_for}
-use Rattle.jo_grammar.specs.Cuts.{Piece}
+use Rattle.jo_grammar.specs.Cuts.{Section}
 use Rattle.jo_grammar.specs.Sets.{IsFirstUnread, IsFirstMisspelled, faults_of_all}
 
 -- the lists of tokens that the code holds
@@ -15,9 +15,9 @@ abbrev pub lists_of : {Z : Type 0} → List (Vec Token Z) → List (List Token)
 lists_of lists = map (λ list. list.items) lists
 
 -- want of memory, or the refusal of the first script that is not read
-abbrev pub IsLexFault : Table → List Piece → ParseFault → Type 0
-IsLexFault texts pieces Memory = Unit {0}
-IsLexFault texts pieces (Refused refusal) = IsFirstUnread texts pieces refusal
+abbrev pub IsLexFault : Table → List Section → ParseFault → Type 0
+IsLexFault texts sections Memory = Unit {0}
+IsLexFault texts sections (Refused refusal) = IsFirstUnread texts sections refusal
 
 -- want of memory, or the refusal of the first script that is none
 abbrev pub IsTreeFault : Table → List (List Token) → ParseFault → Type 0

@@ -1,13 +1,13 @@
 // From bytes to the texts of the scripts.
 ghost use Rattle.std.specs.Prelude.{◌≡◌, ◌≤◌, length, IfErr, IfOk, IsUtf8};
 ghost use Rattle.jo_value.specs.declared.limits.TheConstants.{MOST_INPUT};
-ghost use Rattle.jo_grammar.specs.Cuts.{pieces_of};
-ghost use Rattle.jo_parse.specs.CutScripts.{parts_of};
+ghost use Rattle.jo_grammar.specs.Cuts.{sections_of};
+ghost use Rattle.jo_parse.specs.CutScripts.{sections_in};
 ghost use Rattle.jo_grammar.specs.Sets.{IsCut};
 ghost use Rattle.jo_parse.specs.Parsed.{IsFault};
 
 use jo_lex::{ParseFault, Refusal, RefusalKind};
-use crate::piece::{Piece, pieces};
+use crate::section::{Section, sections};
 use std::alloc::Global;
 
 // The bytes as text, or the refusal at the first byte that belongs to no whole character.
@@ -27,11 +27,11 @@ fn text(bytes: &[u8]) -> Result<&str, ParseFault>
 }
 
 /// The scripts of the set, not yet read.
-pub(crate) fn cut<'a>(alloc: Global, bytes: &'a [u8]) -> Result<Vec<Piece<'a>>, ParseFault>
+pub(crate) fn cut<'a>(alloc: Global, bytes: &'a [u8]) -> Result<Vec<Section<'a>>, ParseFault>
     requires { length bytes.now ≤ MOST_INPUT }
     ensures ok { IfOk result (λ _. IsCut bytes.now) }
-    ensures parts { IfOk result (λ parts. parts_of parts.items ≡ pieces_of bytes.now) }
+    ensures parts { IfOk result (λ parts. sections_in parts.items ≡ sections_of bytes.now) }
     ensures refused { IfErr result (IsFault bytes.now) }
 {
-    pieces(alloc, text(bytes)?)
+    sections(alloc, text(bytes)?)
 }

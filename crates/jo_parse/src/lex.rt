@@ -2,14 +2,14 @@
 ghost use Rattle.std.specs.Prelude.{◌≡◌, ◌≤◌, length, IfErr, IfOk};
 ghost use Rattle.jo_value.specs.declared.limits.TheConstants.{MOST_INPUT};
 ghost use Rattle.jo_grammar.specs.Cuts.{AreWithin};
-ghost use Rattle.jo_parse.specs.CutScripts.{parts_of};
+ghost use Rattle.jo_parse.specs.CutScripts.{sections_in};
 ghost use Rattle.jo_grammar.specs.Sets.{AreRead, IsLexed, is_nothing};
 ghost use Rattle.jo_parse.specs.Parsed.{IsFault};
 ghost use Rattle.jo_parse.specs.Stages.{IsLexFault, lists_of};
 
 use crate::cut::cut;
 use jo_lex::{ParseFault, Refusal, RefusalKind, Token, tokens};
-use crate::piece::Piece;
+use crate::section::Section;
 use jo_value::Texts;
 use std::alloc::{AllocError, Global};
 
@@ -23,17 +23,17 @@ pub(crate) struct Lexed {
 // Reads the scripts one after another into one table.
 fn token_lists(
     alloc: Global,
-    pieces: &[Piece<'_>],
+    sections: &[Section<'_>],
     texts: &mut Texts,
 ) -> Result<Vec<Vec<Token>>, ParseFault>
-    requires { AreWithin MOST_INPUT (parts_of pieces.now) }
+    requires { AreWithin MOST_INPUT (sections_in sections.now) }
     ensures ok { IfOk result (λ lists.
-        AreRead texts.old (parts_of pieces.now) (lists_of lists.items) texts.new) }
-    ensures refused { IfErr result (IsLexFault texts.old (parts_of pieces.now)) }
+        AreRead texts.old (sections_in sections.now) (lists_of lists.items) texts.new) }
+    ensures refused { IfErr result (IsLexFault texts.old (sections_in sections.now)) }
 {
     let mut lists = Vec::new(alloc);
-    for piece in pieces {
-        let found = tokens(alloc, piece.text, piece.start, texts)?;
+    for section in sections {
+        let found = tokens(alloc, section.text, section.start, texts)?;
         lists.push(found).map_err(AllocError::from)?;
     }
     Ok(lists)
@@ -52,9 +52,9 @@ pub(crate) fn lex(alloc: Global, bytes: &[u8]) -> Result<Lexed, ParseFault>
     ensures ok { IfOk result (λ lexed. IsLexed bytes.now (lists_of lexed.lists.items) lexed.texts) }
     ensures refused { IfErr result (IsFault bytes.now) }
 {
-    let pieces = cut(alloc, bytes)?;
+    let sections = cut(alloc, bytes)?;
     let mut texts = Texts::new(alloc);
-    let lists = token_lists(alloc, pieces.as_slice(), &mut texts)?;
+    let lists = token_lists(alloc, sections.as_slice(), &mut texts)?;
     if is_nothing(lists.as_slice()) {
         return Err(ParseFault::Refused(Refusal {
             kind: RefusalKind::NoScript,

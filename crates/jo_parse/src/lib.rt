@@ -4,7 +4,7 @@
 mod cut;
 mod lex;
 mod named;
-mod piece;
+mod section;
 mod reader;
 mod set;
 mod spell;

@@ -24,7 +24,7 @@ fn punct_rank(punct: Punct) -> u8
     }
 }
 
-/// How tightly a terminal behind an expression binds, or 0 where it does not. `ins` says whether `in` does.
+/// How tightly a terminal after an expression binds, or 0 where it does not. `ins` says whether `in` does.
 pub(crate) fn rank(ins: bool, terminal: Terminal) -> u8
     ensures { result ≡ spec.rank ins terminal }
 {
@@ -79,7 +79,7 @@ pub(crate) fn sign_of(terminal: Terminal) -> Option<UnaryOperator>
     }
 }
 
-/// The name of a property behind a dot.
+/// The name of a property after a dot.
 pub(crate) fn name_of(terminal: Terminal) -> Option<Name>
     ensures { result ≡ spec.name_of terminal }
 {

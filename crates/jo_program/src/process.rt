@@ -37,7 +37,7 @@ fn arguments<R: AllocGlobal + Env>(rt: &R) -> Result<Vec<String>, AllocError> {
     }
 }
 
-// The words are the arguments behind the program's own name.
+// The words are the arguments after the program's own name.
 fn words_of(arguments: &[String]) -> &[String]
     ensures { result.now ≡ drop 1 arguments.now }
 {

@@ -1,4 +1,4 @@
--- Lines behind a head, byte by byte.
+-- Lines after a head, byte by byte.
 use Rattle.std.proofs.Common.{◌≡◌, ℕ, ◌<◌, ◌+◌, suc, Bool, true, false, List, [], ◌∷◌, ◌++◌, drop, get_or, drop-cons, length, refl, sym, ap, ◌∙◌, append_assoc, arith}
 use Rattle.std.specs.Prelude.{◌==◌, if◌then◌else◌}
 use Rattle.jo_model.specs.Rendered.{headed}

@@ -2,17 +2,17 @@
 use Rattle.std.proofs.Common.{◌≡◌, ℕ, List, [], ◌∷◌, ◌++◌, drop, codes, refl, sym, ap, ◌∙◌}
 use Rattle.std.proofs.lemmas.List.Concat.{flat_map-append}
 use Rattle.jo_model.specs.Printed.{joined}
-use Rattle.jo_render.specs.Pieces.{each_behind}
+use Rattle.jo_render.specs.Fragments.{each_after}
 
-drop-each_behind : (texts : List (List ℕ)) → drop 2 (each_behind (codes ", ") texts) ≡ joined (codes ", ") texts
-drop-each_behind [] = refl
-drop-each_behind (t ∷ texts) = refl
+drop-each_after : (texts : List (List ℕ)) → drop 2 (each_after (codes ", ") texts) ≡ joined (codes ", ") texts
+drop-each_after [] = refl
+drop-each_after (t ∷ texts) = refl
 
 -- two lists of texts, in a buffer that was empty
 pub joined_from_buffer : (empty first both : List ℕ) (these those : List (List ℕ)) →
-    empty ≡ [] → first ≡ empty ++ each_behind (codes ", ") these → both ≡ first ++ each_behind (codes ", ") those →
+    empty ≡ [] → first ≡ empty ++ each_after (codes ", ") these → both ≡ first ++ each_after (codes ", ") those →
     drop 2 both ≡ joined (codes ", ") (these ++ those)
 joined_from_buffer empty first both these those none more last =
-    let start = more ∙ ap (λ l. l ++ each_behind (codes ", ") these) none in
-    ap (drop 2) (last ∙ ap (λ l. l ++ each_behind (codes ", ") those) start ∙ sym (flat_map-append (λ u. codes ", " ++ u) these those))
-    ∙ drop-each_behind (these ++ those)
+    let start = more ∙ ap (λ l. l ++ each_after (codes ", ") these) none in
+    ap (drop 2) (last ∙ ap (λ l. l ++ each_after (codes ", ") those) start ∙ sym (flat_map-append (λ u. codes ", " ++ u) these those))
+    ∙ drop-each_after (these ++ those)

@@ -10,42 +10,42 @@ use std::alloc::{AllocError, Global};
 /// After an `Err` nothing is promised of the text.
 pub fn add_run(
     alloc: Global,
-    text: &mut Vec<u8>,
-    number: u8,
+    output: &mut Vec<u8>,
+    pass: u8,
     lines: &[u8],
     outcome: Outcome,
 ) -> Result<(), AllocError>
-    ensures { OnOk result (text.new.items
-        ≡ text.old.items ++ run_text number lines.now (outcome_text outcome)) }
+    ensures { OnOk result (output.new.items
+        ≡ output.old.items ++ run_text pass lines.now (outcome_text outcome)) }
 {
-    let head = format!(in alloc; "{number}| ")?;
-    add_headed(text, head.as_bytes(), lines)?;
-    let last = format!(in alloc; "{number}= {}\n", outcome_text(outcome))?;
-    text.extend_from_slice(last.as_bytes())?;
+    let head = format!(in alloc; "{pass}| ")?;
+    add_headed(output, head.as_bytes(), lines)?;
+    let last = format!(in alloc; "{pass}= {}\n", outcome_text(outcome))?;
+    output.extend_from_slice(last.as_bytes())?;
     Ok(())
 }
 
 // Puts lines at the end, with the head before each.
-fn add_headed(text: &mut Vec<u8>, head: &[u8], lines: &[u8]) -> Result<(), AllocError>
-    ensures { OnOk result (text.new.items ≡ text.old.items ++ headed head.now true lines.now) }
+fn add_headed(output: &mut Vec<u8>, head: &[u8], lines: &[u8]) -> Result<(), AllocError>
+    ensures { OnOk result (output.new.items ≡ output.old.items ++ headed head.now true lines.now) }
 {
     let mut begins = true;
     for byte in lines {
-        add_byte(text, head, begins, *byte)?;
+        add_byte(output, head, begins, *byte)?;
         begins = *byte == b'\n';
     }
     Ok(())
 }
 
-// Puts a byte of a line at the end, behind the head where a line begins.
-fn add_byte(text: &mut Vec<u8>, head: &[u8], begins: bool, byte: u8) -> Result<(), AllocError>
-    ensures { OnOk result (text.new.items
-        ≡ text.old.items ++ (if begins then head.now else []) ++ byte ∷ []) }
+// Puts a byte of a line at the end, after the head where a line begins.
+fn add_byte(output: &mut Vec<u8>, head: &[u8], begins: bool, byte: u8) -> Result<(), AllocError>
+    ensures { OnOk result (output.new.items
+        ≡ output.old.items ++ (if begins then head.now else []) ++ byte ∷ []) }
 {
     if begins {
-        text.extend_from_slice(head)?;
+        output.extend_from_slice(head)?;
     }
-    text.push(byte)?;
+    output.push(byte)?;
     Ok(())
 }
 

@@ -1,7 +1,7 @@
 // The text of values in a line. Each call puts it at the end of a text.
 ghost use Rattle.std.specs.Prelude.{◌≡◌, ◌++◌, OnOk, codes, map};
 ghost use Rattle.jo_model.specs.Printed.{text_in, object_text, value_text, line_of};
-ghost use Rattle.jo_render.specs.Pieces.{each_behind};
+ghost use Rattle.jo_render.specs.Fragments.{each_after};
 
 use jo_value::{ObjId, TextId, Texts, Value};
 use std::alloc::{AllocError, Global};
@@ -11,29 +11,29 @@ use std::alloc::{AllocError, Global};
 /// After an `Err` nothing is promised of the text.
 pub fn add_value(
     alloc: Global,
-    text: &mut Vec<u8>,
+    output: &mut Vec<u8>,
     texts: &Texts,
     value: Value,
 ) -> Result<(), AllocError>
-    ensures { OnOk result (text.new.items ≡ text.old.items ++ value_text texts.now value) }
+    ensures { OnOk result (output.new.items ≡ output.old.items ++ value_text texts.now value) }
 {
     match value {
-        Value::Undefined => text.extend_from_slice(b"undefined"),
-        Value::Null => text.extend_from_slice(b"null"),
-        Value::Bool(true) => text.extend_from_slice(b"true"),
-        Value::Bool(false) => text.extend_from_slice(b"false"),
-        Value::Int(number) => text.extend_from_slice(number.to_string(alloc)?.as_bytes()),
-        Value::Text(id) => text.extend_from_slice(bytes_of(texts, id)),
-        Value::Object(object) => add_object_name(alloc, text, object),
+        Value::Undefined => output.extend_from_slice(b"undefined"),
+        Value::Null => output.extend_from_slice(b"null"),
+        Value::Bool(true) => output.extend_from_slice(b"true"),
+        Value::Bool(false) => output.extend_from_slice(b"false"),
+        Value::Int(number) => output.extend_from_slice(number.to_string(alloc)?.as_bytes()),
+        Value::Text(id) => output.extend_from_slice(bytes_of(texts, id)),
+        Value::Object(object) => add_object_name(alloc, output, object),
     }
 }
 
 // Puts the name of an object at the end.
-fn add_object_name(alloc: Global, text: &mut Vec<u8>, object: ObjId) -> Result<(), AllocError>
-    ensures { OnOk result (text.new.items ≡ text.old.items ++ object_text object) }
+fn add_object_name(alloc: Global, output: &mut Vec<u8>, object: ObjId) -> Result<(), AllocError>
+    ensures { OnOk result (output.new.items ≡ output.old.items ++ object_text object) }
 {
-    let name = format!(in alloc; "#{}.{}", object.pass, object.number)?;
-    text.extend_from_slice(name.as_bytes())?;
+    let name = format!(in alloc; "#{}.{}", object.pass, object.serial)?;
+    output.extend_from_slice(name.as_bytes())?;
     Ok(())
 }
 
@@ -53,35 +53,35 @@ pub(crate) fn bytes_of(texts: &Texts, id: TextId) -> &[u8]
 /// After an `Err` nothing is promised of the text.
 pub fn add_line(
     alloc: Global,
-    text: &mut Vec<u8>,
+    output: &mut Vec<u8>,
     texts: &Texts,
     values: &[Value],
 ) -> Result<(), AllocError>
-    ensures { OnOk result (text.new.items ≡ text.old.items ++ line_of texts.now values.now) }
+    ensures { OnOk result (output.new.items ≡ output.old.items ++ line_of texts.now values.now) }
 {
     match values {
         [] => Ok(()),
         [first, rest @ ..] => {
-            add_value(alloc, text, texts, *first)?;
-            add_more(alloc, text, texts, rest)?;
+            add_value(alloc, output, texts, *first)?;
+            add_more(alloc, output, texts, rest)?;
             Ok(())
         }
     }
 }
 
-// Puts each value at the end, behind a blank.
+// Puts each value at the end, after a blank.
 fn add_more(
     alloc: Global,
-    text: &mut Vec<u8>,
+    output: &mut Vec<u8>,
     texts: &Texts,
     values: &[Value],
 ) -> Result<(), AllocError>
-    ensures { OnOk result (text.new.items
-        ≡ text.old.items ++ each_behind (codes " ") (map (value_text texts.now) values.now)) }
+    ensures { OnOk result (output.new.items
+        ≡ output.old.items ++ each_after (codes " ") (map (value_text texts.now) values.now)) }
 {
     for value in values {
-        text.extend_from_slice(b" ")?;
-        add_value(alloc, text, texts, *value)?;
+        output.extend_from_slice(b" ")?;
+        add_value(alloc, output, texts, *value)?;
     }
     Ok(())
 }

@@ -6,23 +6,23 @@ use std::io;
 use std::process::Abort;
 use std::test::Fail;
 
-// Reads into one piece of three bytes, call after call.
+// Reads into one buffer of three bytes, call after call.
 fn check_reads<S: Source>(
     rt: &impl Abort,
     source: &mut S,
     calls: &[(Result<usize, Failed>, [u8; 3])],
 ) {
-    let mut piece = *b"---";
+    let mut buffer = *b"---";
     for (answer, after) in calls {
-        assert_eq!(rt; source.read(&mut piece), *answer);
-        assert_eq!(rt; piece, *after);
+        assert_eq!(rt; source.read(&mut buffer), *answer);
+        assert_eq!(rt; buffer, *after);
     }
 }
 
-// Writes piece after piece.
+// Writes buffer after buffer.
 fn check_writes<S: Sink>(rt: &impl Abort, sink: &mut S, calls: &[(&[u8], Result<usize, Failed>)]) {
-    for (piece, answer) in calls {
-        assert_eq!(rt; sink.write(piece), *answer);
+    for (buffer, answer) in calls {
+        assert_eq!(rt; sink.write(buffer), *answer);
     }
 }
 
@@ -46,16 +46,16 @@ impl Faulty {
 }
 
 impl io::Read for Faulty {
-    fn read(&mut self, piece: &mut [u8]) -> io::Result<usize> {
-        let count = self.answer(piece.len())?;
-        piece[..count].fill(b'x');
+    fn read(&mut self, buffer: &mut [u8]) -> io::Result<usize> {
+        let count = self.answer(buffer.len())?;
+        buffer[..count].fill(b'x');
         Ok(count)
     }
 }
 
 impl io::Write for Faulty {
-    fn write(&mut self, piece: &[u8]) -> io::Result<usize> {
-        self.answer(piece.len())
+    fn write(&mut self, buffer: &[u8]) -> io::Result<usize> {
+        self.answer(buffer.len())
     }
 
     fn flush(&mut self) -> io::Result<()> {

@@ -12,7 +12,7 @@ fn values_of_all_kinds_stand_in_a_line(rt: HostRuntime) -> Result<(), Fail> {
     let word = texts.intern("a \"word\"")?;
     let far = ObjId {
         pass: 3,
-        number: 4_095,
+        serial: 4_095,
     };
     let values = [
         Value::Undefined,
@@ -91,7 +91,7 @@ fn no_read_comes_after_the_end_or_the_limit(rt: HostRuntime) -> Result<(), Fail>
 }
 
 #[test]
-fn no_empty_piece_is_written(rt: HostRuntime) -> Result<(), Fail> {
+fn no_empty_buffer_is_written(rt: HostRuntime) -> Result<(), Fail> {
     let alloc = rt.alloc();
     for (text, not_needed) in [(b"xyz".as_slice(), 4), (b"".as_slice(), 1)] {
         let mut sink = MemorySink::new(Vec::new(alloc), 1, vec![in alloc; not_needed]?);

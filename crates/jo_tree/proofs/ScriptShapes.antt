@@ -11,7 +11,7 @@ use Rattle.jo_tree.specs.declared.script.Block.{Block, roll-Block}
 use Rattle.jo_tree.specs.declared.script.If.{If}
 use Rattle.jo_tree.specs.declared.script.While.{While}
 use Rattle.jo_tree.specs.declared.script.For.{For}
-use Rattle.jo_tree.specs.Trees.{empty, block, while, for, break, continue, print, print_names, run, declare, perform}
+use Rattle.jo_tree.specs.Trees.{empty, block, while, for, break, continue, print, print_names, evaluate, declare, perform}
 use Rattle.jo_tree.specs.Views.{expr_tree}
 use Rattle.jo_tree.specs.ScriptViews.{option_tree, binding_tree, bindings_list, let_list, head_tree, trees_list, if_tree, statement_tree, items_row, items_list, optional_statement}
 
@@ -64,7 +64,7 @@ pub statement_tree-print_names : (e : Expr) → statement_tree (s.PrintNames e) 
 unfolding statement_tree
 statement_tree-print_names e = refl
 
-pub statement_tree-run : (e : Expr) → statement_tree (s.Expr e) ≡ run (expr_tree e)
+pub statement_tree-run : (e : Expr) → statement_tree (s.Expr e) ≡ evaluate (expr_tree e)
 unfolding statement_tree
 statement_tree-run e = refl
 

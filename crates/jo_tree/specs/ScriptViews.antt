@@ -11,7 +11,7 @@ use Rattle.jo_tree.specs.declared.script.Item.TheVariants as i
 use Rattle.jo_tree.specs.declared.script.Item.TheBlock.{Held-If-otherwise, None', Some', Row_of-Item, more_of-Item, end_of-Item, more_of-If, end_of-If, more_of-While, end_of-While, more_of-For, end_of-For}
 use Rattle.jo_tree.specs.declared.script.Statement.{Statement}
 use Rattle.jo_tree.specs.declared.script.Statement.TheVariants as s
-use Rattle.jo_tree.specs.Trees.{Tree, Head, Items, declares, begins, empty, block, when, either, while, for, break, continue, print, print_names, run, no_items, declare, perform}
+use Rattle.jo_tree.specs.Trees.{Tree, Head, Items, declares, begins, empty, block, when, either, while, for, break, continue, print, print_names, evaluate, no_items, declare, perform}
 use Rattle.jo_tree.specs.Trees as plain
 use Rattle.jo_tree.specs.Views.{expr_tree}
 
@@ -57,7 +57,7 @@ unfoldable mutual
   statement_tree s.Continue = continue
   statement_tree (s.Print es) = print (trees_list es)
   statement_tree (s.PrintNames e) = print_names (expr_tree e)
-  statement_tree (s.Expr e) = run (expr_tree e)
+  statement_tree (s.Expr e) = evaluate (expr_tree e)
 
   pub else_tree : Held-If-otherwise → Option plain.Statement
   else_tree None' = None

@@ -70,7 +70,7 @@ mutual
     continue : Statement
     print : List Tree → Statement
     print_names : Tree → Statement
-    run : Tree → Statement
+    evaluate : Tree → Statement
 
   -- the items of a block or of a whole script
   pub data Items : Type 0 where

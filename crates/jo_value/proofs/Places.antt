@@ -6,17 +6,17 @@ use Rattle.std.proofs.lemmas.Cmp.{nat_list_eq_equiv}
 use Rattle.std.proofs.lemmas.Bool.{ltb-false}
 use Rattle.std.proofs.lemmas.List.Sums.{prefix_len-le-length}
 use Rattle.std.specs.Prelude.{IfSome, IfNone}
-use Rattle.jo_value.specs.Texts.{number_in}
+use Rattle.jo_value.specs.Texts.{id_in}
 
 place-step : (b c : Bool) (m n : ℕ) → b ≡ c → m ≡ n → cond (not b) (1 + m) 0 ≡ cond (not c) (1 + n) 0
 place-step b c m n e f = ap (λ x. cond (not x) (1 + m) 0) e ∙ ap (λ k. cond (not c) (1 + k) 0) f
 
 -- the first key with these bytes stands where the table has them
-pub number_in-keys : {Z : Type 0} (text : List ℕ) (keys : List (String Z)) → position_or_len (λ key. bytes_eq text (string_bytes key)) keys ≡ number_in (map (λ key. string_bytes key) keys) text
-number_in-keys text [] = refl
-number_in-keys text (key ∷ keys) = place-step (bytes_eq text (string_bytes key)) (bytes_eq (string_bytes key) text) _ _ (nat_list_eq_equiv.symm text (string_bytes key)) (number_in-keys text keys)
+pub id_in-keys : {Z : Type 0} (text : List ℕ) (keys : List (String Z)) → position_or_len (λ key. bytes_eq text (string_bytes key)) keys ≡ id_in (map (λ key. string_bytes key) keys) text
+id_in-keys text [] = refl
+id_in-keys text (key ∷ keys) = place-step (bytes_eq text (string_bytes key)) (bytes_eq (string_bytes key) text) _ _ (nat_list_eq_equiv.symm text (string_bytes key)) (id_in-keys text keys)
 
-pub place_within : (table : List (List ℕ)) (text : List ℕ) → number_in table text ≤ length table
+pub place_within : (table : List (List ℕ)) (text : List ℕ) → id_in table text ≤ length table
 place_within table text = prefix_len-le-length (λ t. not (bytes_eq t text)) table
 
 there-step : (k n : ℕ) (b : Bool) (found : Option ℕ) → found ≡ cond b (Some k) None → k ≡ n → IfSome found (λ at. at ≡ n)

@@ -7,12 +7,12 @@ abbrev pub Table : Type 0
 Table = List (List ℕ)
 
 -- the place of the first equal text, or the length where there is none
-abbrev pub number_in : Table → List ℕ → ℕ
-number_in texts text = position_or_len (λ t. pointwise nat_eq t text) texts
+abbrev pub id_in : Table → List ℕ → ℕ
+id_in texts text = position_or_len (λ t. pointwise nat_eq t text) texts
 
 -- the table with this text, which goes last where it is new
 abbrev pub interned : Table → List ℕ → Table
-interned texts text = if nat_lt (number_in texts text) (length texts) then texts else texts ++ text ∷ []
+interned texts text = if nat_lt (id_in texts text) (length texts) then texts else texts ++ text ∷ []
 
 -- the table of these texts, each once, in the order of their first places
 abbrev pub table_of : List (List ℕ) → Table

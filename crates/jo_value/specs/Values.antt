@@ -10,7 +10,7 @@ abbrev pub is_same_name : NameId → NameId → Bool
 is_same_name a b = a.0 == b.0
 
 abbrev pub is_same_object : ObjId → ObjId → Bool
-is_same_object a b = a.pass == b.pass && a.number == b.number
+is_same_object a b = a.pass == b.pass && a.serial == b.serial
 
 abbrev pub is_same_bool : Bool → Bool → Bool
 is_same_bool true b = b

@@ -30,7 +30,7 @@ pub const MOST_INDEX: u32 = 1_023;
 /// The largest array index, by ECMA-262.
 pub const MOST_ARRAY_INDEX: u32 = 4_294_967_294;
 
-/// The most bytes of the printed lines of a script, with the line feed behind each.
+/// The most bytes of the printed lines of a script, with the line feed after each.
 pub const MOST_LINE_BYTES: usize = 262_144;
 
 /// The most names that an object has at once.

@@ -49,7 +49,7 @@ impl Model for Texts {
 }
 
 impl Texts {
-    ghost use Rattle.jo_value.specs.Texts.{interned, number_in};
+    ghost use Rattle.jo_value.specs.Texts.{interned, id_in};
 
     /// An empty table. It takes no memory until a text is interned.
     pub fn new(alloc: Global) -> Texts
@@ -64,13 +64,13 @@ impl Texts {
     /// The number of an equal text that is there, or the next number for a new one.
     /// After an `Err` the table is as before.
     pub fn intern(&mut self, text: &str) -> Result<TextId, InternFault>
-        ensures number { IfOk result (λ id. id.0 ≡ number_in self.old text.now) }
+        ensures id { IfOk result (λ id. id.0 ≡ id_in self.old text.now) }
         ensures table { IfOk result (λ _. self.new ≡ interned self.old text.now) }
         ensures full { IsErrOf result InternFault.TooManyTexts
-            ↔ ((number_in self.old text.now ≡ length self.old) × (length self.old ≡ MOST_TEXTS)) }
+            ↔ ((id_in self.old text.now ≡ length self.old) × (length self.old ≡ MOST_TEXTS)) }
         ensures err { OnErr result (self.new ≡ self.old) }
     {
-        if let Some(id) = self.number_of(text) {
+        if let Some(id) = self.id_of(text) {
             return Ok(id);
         }
         let next = self.texts.len();
@@ -82,10 +82,10 @@ impl Texts {
     }
 
     /// The number of the text, where it is there.
-    pub fn number_of(&self, text: &str) -> Option<TextId>
-        ensures some { IfSome result (λ id. id.0 ≡ number_in self.now text.now) }
+    pub fn id_of(&self, text: &str) -> Option<TextId>
+        ensures some { IfSome result (λ id. id.0 ≡ id_in self.now text.now) }
         ensures within { IfSome result (λ id. id.0 < length self.now) }
-        ensures none { IfNone result (number_in self.now text.now ≡ length self.now) }
+        ensures none { IfNone result (id_in self.now text.now ≡ length self.now) }
     {
         match self.place(text) {
             Some(at) => Some(TextId(at as u16)),
@@ -95,17 +95,17 @@ impl Texts {
 
     // The place of the text, where it is there.
     fn place(&self, text: &str) -> Option<usize>
-        ensures there { IfSome result (λ at. at ≡ number_in self.now text.now) }
+        ensures there { IfSome result (λ at. at ≡ id_in self.now text.now) }
         ensures within { IfSome result (λ at. at < length self.now) }
         ensures small { IfSome result (λ at. at < MOST_TEXTS) }
-        ensures new { IfNone result (number_in self.now text.now ≡ length self.now) }
+        ensures new { IfNone result (id_in self.now text.now ≡ length self.now) }
     {
         self.texts.get_index_of(text)
     }
 
     // Puts a new text last.
     fn add(&mut self, text: &str) -> Result<(), AllocError>
-        requires new { number_in self.old text.now ≡ length self.old }
+        requires new { id_in self.old text.now ≡ length self.old }
         requires room { length self.old < MOST_TEXTS }
         ensures ok { OnOk result (self.new ≡ self.old ++ text.now ∷ []) }
         ensures err { OnErr result (self.new ≡ self.old) }

@@ -12,12 +12,12 @@ pub struct NameId(pub u16);
 #[derive(Clone, Copy, Debug, PartialEq, Eq)]
 pub struct ObjId {
     pub pass: u8,
-    pub number: u16,
+    pub serial: u16,
 }
 
 impl ObjId {
     /// The object that every script has from the start, as `shared`.
-    pub const SHARED: ObjId = ObjId { pass: 0, number: 0 };
+    pub const SHARED: ObjId = ObjId { pass: 0, serial: 0 };
 }
 
 /// The key of a property: a name, or an array index.

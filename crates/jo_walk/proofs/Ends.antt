@@ -11,7 +11,7 @@ use Rattle.jo_value.specs.declared.value.Value.TheVariants.{Int}
 use Rattle.jo_tree.specs.Blocks.{declared_in}
 use Rattle.jo_tree.specs.declared.keyword.Keyword.TheVariants as keyword
 use Rattle.jo_tree.specs.declared.operator.AssignOperator.TheVariants as assign_op
-use Rattle.jo_tree.specs.Trees.{Tree, number, constant, member, assign, no_accesses, field, Statement, print, run, Items, no_items, declare, perform}
+use Rattle.jo_tree.specs.Trees.{Tree, number, constant, member, assign, no_accesses, field, Statement, print, evaluate, Items, no_items, declare, perform}
 use Rattle.jo_model.specs.declared.call.Call.TheVariants as call
 use Rattle.jo_model.specs.declared.call.Outcome.{Outcome}
 use Rattle.jo_model.specs.declared.call.Outcome.TheVariants as outcome
@@ -22,13 +22,13 @@ use Rattle.jo_model.specs.One.{one}
 use Rattle.jo_model.specs.Printed.{text_in, line_of}
 use Rattle.jo_meaning.specs.Runs.{Interaction}
 use Rattle.jo_meaning.specs.Play.{play}
-use Rattle.jo_meaning.specs.State.{State, Next, Scope, unless_refused, unless_fault, asks, found_in, ends}
+use Rattle.jo_meaning.specs.State.{State, Next, Environment, unless_refused, unless_fault, asks, found_in, ends}
 use Rattle.jo_meaning.specs.Printed.{prints}
 use Rattle.jo_meaning.specs.Expressions.{evaluates, evaluates_each}
 use Rattle.jo_meaning.specs.Statements.{executes, executes_all}
 use Rattle.jo_meaning.specs.Scripts.{interaction_of, state_at_start}
 use Rattle.jo_meaning.specs.Histories.{IsHistoryOf, played_alone}
-use Rattle.jo_meaning.specs.Keys.{is_digit, numeral, key_by, key_of_text, name_number}
+use Rattle.jo_meaning.specs.Keys.{is_digit, numeral, key_by, key_of_text, name_id}
 use Rattle.jo_meaning.specs.Values.{is_empty}
 use Rattle.jo_meaning.proofs.Alone.{history_of_script, heap_alone, lines_alone, entries_of-play}
 use Rattle.jo_form.specs.Forms.{number_in, with_front, is_word, shared_name, shared_names, put_of, print_of, step_of, steps_of, has_few_names, unless_many, form_of}
@@ -74,14 +74,14 @@ key_named id (Some text) w = ap (key_by id) (no_numeral text w)
 
 -- ---- reads
 
-read_end : (texts : Table) (scope : Scope) (e : Tree) (name : NameId) (next : Value → Next) (s : State) (heap : Heap) → shared_name texts e ≡ Some name →
-    end_of (evaluates texts scope e next s) heap ≡ end_of (next (value_in heap name) s) heap
-read_end texts scope (member (constant keyword.Shared) (field word no_accesses)) name next s heap h =
-    let id = name_number texts word in
+read_end : (texts : Table) (environment : Environment) (e : Tree) (name : NameId) (next : Value → Next) (s : State) (heap : Heap) → shared_name texts e ≡ Some name →
+    end_of (evaluates texts environment e next s) heap ≡ end_of (next (value_in heap name) s) heap
+read_end texts environment (member (constant keyword.Shared) (field word no_accesses)) name next s heap h =
+    let id = name_id texts word in
     let named = cond_some (is_word (text_in texts id)) (record { 0 = id }) name h in
     ap (λ k. end_of (unless_fault k (λ k. asks (call.Get shared k) (λ reply. next (found_in reply))) s) heap) (key_named id (slice_get texts id) named.0)
     ∙ ap (λ n. end_of (next (value_in heap n) s) heap) named.1
-read_end texts scope _ name next s heap h = absurd (none-some name h)
+read_end texts environment _ name next s heap h = absurd (none-some name h)
 
 -- what is in front, and the others
 record Front {A : Type 0} (x : Option A) (xs : Option (List A)) (all : List A) : Type 0 where
@@ -96,13 +96,13 @@ front (Some x) (Some xs) all h = record { first = x; others = xs; is_first = ref
 front (Some x) None all h = absurd (none-some all h)
 front None xs all h = absurd (none-some all h)
 
-reads_end : (texts : Table) (scope : Scope) (es : List Tree) (names : List NameId) (next : List Value → Next) (s : State) (heap : Heap) → shared_names texts es ≡ Some names →
-    end_of (evaluates_each texts scope es next s) heap ≡ end_of (next (values_in heap names) s) heap
-reads_end texts scope [] names next s heap h = ap (λ n. end_of (next (values_in heap n) s) heap) (inside [] names h)
-reads_end texts scope (e ∷ es) names next s heap h =
+reads_end : (texts : Table) (environment : Environment) (es : List Tree) (names : List NameId) (next : List Value → Next) (s : State) (heap : Heap) → shared_names texts es ≡ Some names →
+    end_of (evaluates_each texts environment es next s) heap ≡ end_of (next (values_in heap names) s) heap
+reads_end texts environment [] names next s heap h = ap (λ n. end_of (next (values_in heap n) s) heap) (inside [] names h)
+reads_end texts environment (e ∷ es) names next s heap h =
     let f = front (shared_name texts e) (shared_names texts es) names h in
-    read_end texts scope e f.first (λ v. evaluates_each texts scope es (λ values. next (v ∷ values))) s heap f.is_first
-    ∙ reads_end texts scope es f.others (λ values. next (value_in heap f.first ∷ values)) s heap f.are_others
+    read_end texts environment e f.first (λ v. evaluates_each texts environment es (λ values. next (v ∷ values))) s heap f.is_first
+    ∙ reads_end texts environment es f.others (λ values. next (value_in heap f.first ∷ values)) s heap f.are_others
     ∙ ap (λ n. end_of (next (values_in heap n) s) heap) f.joined
 
 -- ---- prints
@@ -155,42 +155,42 @@ put_number texts true name (number i) of h = record { word = refl; i = i; is_num
 put_number texts true name _ of h = absurd (none-some of h)
 put_number texts false name value of h = absurd (none-some of h)
 
-put_end : (texts : Table) (scope : Scope) (target value : Tree) (of : Step) (next broken continued : Next) (rest : Heap → List ℕ → Stage) (s : State) (heap : Heap) →
+put_end : (texts : Table) (environment : Environment) (target value : Tree) (of : Step) (next broken continued : Next) (rest : Heap → List ℕ → Stage) (s : State) (heap : Heap) →
     put_of (shared_name texts target) (number_in value) ≡ Some of → Leaves next rest →
-    end_of (executes texts scope (run (assign assign_op.Set target value)) next broken continued s) heap ≡ goes_on (after_step texts of heap s.lines) rest
-put_end texts scope (member (constant keyword.Shared) (field word no_accesses)) value of next broken continued rest s heap h leaves =
-    let id = name_number texts word in
+    end_of (executes texts environment (evaluate (assign assign_op.Set target value)) next broken continued s) heap ≡ goes_on (after_step texts of heap s.lines) rest
+put_end texts environment (member (constant keyword.Shared) (field word no_accesses)) value of next broken continued rest s heap h leaves =
+    let id = name_id texts word in
     let name : NameId = record { 0 = id } in
     let target : Tree = member (constant keyword.Shared) (field word no_accesses) in
     let p = put_number texts (is_word (text_in texts id)) name value of h in
-    ap (λ v. end_of (executes texts scope (run (assign assign_op.Set target v)) next broken continued s) heap) p.is_number
+    ap (λ v. end_of (executes texts environment (evaluate (assign assign_op.Set target v)) next broken continued s) heap) p.is_number
     ∙ ap (λ k. end_of (unless_fault k (λ k. asks (call.Put shared k (Int p.i)) (λ reply. next)) s) heap) (key_named id (slice_get texts id) p.word)
     ∙ refused_end (one heap 1 (call.Put shared (Name name) (Int p.i))).1 next rest s (one heap 1 (call.Put shared (Name name) (Int p.i))).0 leaves
     ∙ ap (λ x. goes_on (after_step texts x heap s.lines) rest) p.is
-put_end texts scope _ value of next broken continued rest s heap h leaves = absurd (none-some of h)
+put_end texts environment _ value of next broken continued rest s heap h leaves = absurd (none-some of h)
 
 -- ---- scripts
 
-step_end : (texts : Table) (scope : Scope) (statement : Statement) (of : Step) (next broken continued : Next) (rest : Heap → List ℕ → Stage) (s : State) (heap : Heap) →
+step_end : (texts : Table) (environment : Environment) (statement : Statement) (of : Step) (next broken continued : Next) (rest : Heap → List ℕ → Stage) (s : State) (heap : Heap) →
     step_of texts statement ≡ Some of → Leaves next rest →
-    end_of (executes texts scope statement next broken continued s) heap ≡ goes_on (after_step texts of heap s.lines) rest
-step_end texts scope (run (assign assign_op.Set target value)) of next broken continued rest s heap h leaves =
-    put_end texts scope target value of next broken continued rest s heap h leaves
-step_end texts scope (print es) of next broken continued rest s heap h leaves =
+    end_of (executes texts environment statement next broken continued s) heap ≡ goes_on (after_step texts of heap s.lines) rest
+step_end texts environment (evaluate (assign assign_op.Set target value)) of next broken continued rest s heap h leaves =
+    put_end texts environment target value of next broken continued rest s heap h leaves
+step_end texts environment (print es) of next broken continued rest s heap h leaves =
     let p = print_names texts (shared_names texts es) of h in
-    reads_end texts scope es p.names_of (λ values. prints (line_of texts values) next) s heap p.are_names
+    reads_end texts environment es p.names_of (λ values. prints (line_of texts values) next) s heap p.are_names
     ∙ line_end (line_of texts (values_in heap p.names_of)) next rest s heap leaves
     ∙ ap (λ x. goes_on (after_step texts x heap s.lines) rest) p.is
-step_end texts scope _ of next broken continued rest s heap h leaves = absurd (none-some of h)
+step_end texts environment _ of next broken continued rest s heap h leaves = absurd (none-some of h)
 
-steps_end : (texts : Table) (scope : Scope) (script : Items) (steps : List Step) (broken continued : Next) → steps_of texts script ≡ Some steps →
-    Leaves (executes_all texts scope script (ends outcome.Done) broken continued) (after_steps texts steps)
-steps_end texts scope no_items steps broken continued h = λ s heap. ap (λ l. after_steps texts l heap s.lines) (inside [] steps h)
-steps_end texts scope (declare bindings items) steps broken continued h = absurd (none-some steps h)
-steps_end texts scope (perform statement items) steps broken continued h = λ s heap.
+steps_end : (texts : Table) (environment : Environment) (script : Items) (steps : List Step) (broken continued : Next) → steps_of texts script ≡ Some steps →
+    Leaves (executes_all texts environment script (ends outcome.Done) broken continued) (after_steps texts steps)
+steps_end texts environment no_items steps broken continued h = λ s heap. ap (λ l. after_steps texts l heap s.lines) (inside [] steps h)
+steps_end texts environment (declare bindings items) steps broken continued h = absurd (none-some steps h)
+steps_end texts environment (perform statement items) steps broken continued h = λ s heap.
     let f = front (step_of texts statement) (steps_of texts items) steps h in
-    step_end texts scope statement f.first (executes_all texts scope items (ends outcome.Done) broken continued) broken continued (after_steps texts f.others) s heap f.is_first
-    (steps_end texts scope items f.others broken continued f.are_others)
+    step_end texts environment statement f.first (executes_all texts environment items (ends outcome.Done) broken continued) broken continued (after_steps texts f.others) s heap f.is_first
+    (steps_end texts environment items f.others broken continued f.are_others)
     ∙ ap (λ l. after_steps texts l heap s.lines) f.joined
 
 few_steps : (o : Option (List Step)) (steps : List Step) → unless_many o ≡ Some steps → o ≡ Some steps

@@ -57,7 +57,7 @@ add_all : (names numbers : List ℕ) (n : ℕ) → IsAmong n names → IsAmong n
 add_all [] numbers n h = absurd (true≢false (sym h))
 add_all (m ∷ names) numbers n h = elim (or_cases (eqb n m) (list_any (eqb n) names) h) [
   | inl same ↦ stay_all names (with_number numbers m) n (added (list_any (eqb m) numbers) numbers m n refl same)
-  | inr behind ↦ add_all names (with_number numbers m) n behind
+  | inr after ↦ add_all names (with_number numbers m) n after
 ]
 
 -- no number is lost where each is kept once
@@ -153,16 +153,16 @@ made there full o objects pass passes name v =
     else (if full then (heap_with o objects pass passes, reply.TooManyNames)
     else (heap_with (with_property o (Name name) v) objects pass passes, reply.Done))
 
--- what is left after a call, and the steps behind it
-abbrev pub behind_call : Table → List Step → List ℕ → Heap × Reply → Stage
-behind_call texts steps lines p =
+-- what is left after a call, and the steps after it
+abbrev pub after_call : Table → List Step → List ℕ → Heap × Reply → Stage
+after_call texts steps lines p =
     unless_ended (after_call lines p).outcome (after_call lines p) (after_steps texts steps (after_call lines p).heap (after_call lines p).lines)
 
 -- a put of a small object is done
 put_ends : (texts : Table) (steps : List Step) (known : List ℕ) (there full : Bool) (o : Object) (objects pass : List Object) (passes : Heap) (name : NameId) (v : Value) (lines : List ℕ) →
     has_property o (Name name) ≡ there → is_full_for o (Name name) ≡ full → IsAmong name.0 known → length known ≤ MOST_NAMES → IsSmall known o →
     ((x : Object) → IsSmall known x → EndsWell (after_steps texts steps (heap_with x objects pass passes) lines)) →
-    EndsWell (behind_call texts steps lines (made there full o objects pass passes name v))
+    EndsWell (after_call texts steps lines (made there full o objects pass passes name v))
 put_ends texts steps known true full o objects pass passes name v lines h f among most small goes = goes (with_value o (Name name) v) (small_with_value known o name v h small)
 put_ends texts steps known false true o objects pass passes name v lines h f among most small goes =
     let full : MOST_NAMES ≤ length o.names = leb-true MOST_NAMES (length o.names) f in

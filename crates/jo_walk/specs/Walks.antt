@@ -41,15 +41,15 @@ values_in heap names = map (value_in heap) names
 -- ---- steps
 
 -- the outcome of a script that gets a reply, where it is a refusal
-abbrev pub refusal_of : Reply → Option Outcome
-refusal_of (reply.Made o) = None
-refusal_of (reply.Found v) = None
-refusal_of (reply.Flag b) = None
-refusal_of (reply.Names names) = None
-refusal_of reply.Done = None
-refusal_of reply.TooManyNames = Some outcome.TooManyNames
-refusal_of reply.ObjectsSpent = Some outcome.ObjectsSpent
-refusal_of (reply.Spent spent) = Some outcome.Spent
+abbrev pub ending_of : Reply → Option Outcome
+ending_of (reply.Made o) = None
+ending_of (reply.Found v) = None
+ending_of (reply.Flag b) = None
+ending_of (reply.Names names) = None
+ending_of reply.Done = None
+ending_of reply.TooManyNames = Some outcome.TooManyNames
+ending_of reply.ObjectsSpent = Some outcome.ObjectsSpent
+ending_of (reply.Spent spent) = Some outcome.Spent
 
 -- the heap after a put on the shared object, and the reply
 abbrev pub put_shared : Heap → NameId → ℤ → Heap × Reply
@@ -57,7 +57,7 @@ put_shared heap name i = one heap 1 (Put shared (Name name) (Int i))
 
 -- after a call that leaves this heap and has this reply
 abbrev pub after_call : List ℕ → Heap × Reply → Stage
-after_call lines p = record { heap = p.0; lines = lines; outcome = refusal_of p.1 }
+after_call lines p = record { heap = p.0; lines = lines; outcome = ending_of p.1 }
 
 -- after a print of one more line
 abbrev pub after_line : Heap → List ℕ → List ℕ → Stage

@@ -2,7 +2,7 @@
 ghost use Rattle.std.specs.Prelude.{◌≡◌, IfOk, OnOk};
 ghost use Rattle.jo_model.specs.Heaps.{Heap};
 ghost use Rattle.jo_model.specs.Printed.{line_of};
-ghost use Rattle.jo_walk.specs.Walks.{IsReady, after_step, put_shared, after_line, value_in, values_in, refusal_of};
+ghost use Rattle.jo_walk.specs.Walks.{IsReady, after_step, put_shared, after_line, value_in, values_in, ending_of};
 
 use jo_form::Step;
 use jo_model::{Call, Outcome, PlainHeap, Reply};
@@ -41,7 +41,7 @@ fn put(heap: &mut PlainHeap, name: NameId, number: i64) -> Result<Option<Outcome
     requires { IsReady heap.old }
     ensures ready { IsReady heap.new }
     ensures heap { OnOk result (heap.new ≡ (put_shared heap.old name number).0) }
-    ensures outcome { IfOk result (λ outcome. outcome ≡ refusal_of (put_shared heap.old name number).1) }
+    ensures outcome { IfOk result (λ outcome. outcome ≡ ending_of (put_shared heap.old name number).1) }
 {
     let reply = heap.call(
         1,
@@ -56,7 +56,7 @@ fn put(heap: &mut PlainHeap, name: NameId, number: i64) -> Result<Option<Outcome
 
 // The outcome of a script that gets this reply, where it is a refusal.
 fn refusal(reply: &Reply) -> Option<Outcome>
-    ensures { result ≡ refusal_of reply.now }
+    ensures { result ≡ ending_of reply.now }
 {
     match reply {
         Reply::Made(_) | Reply::Found(_) | Reply::Flag(_) | Reply::Names(_) | Reply::Done => None,

@@ -89,15 +89,15 @@ impl Sink for MemorySink {
     ghost faults = { λ s. s.faults };
 
     /// Fails at the named calls, and where a growth finds no memory; else takes the lesser of
-    /// `at_most` and the piece's length.
-    fn write(&mut self, piece: &[u8]) -> Result<usize, Failed>
-        ensures bound { WritesAtMost result piece.now }
-        ensures some { TakesSome result piece.now }
-        ensures bytes { WriteAppends (Some self.old.bytes) (Some self.new.bytes) result piece.now }
+    /// `at_most` and the buffer's length.
+    fn write(&mut self, buffer: &[u8]) -> Result<usize, Failed>
+        ensures bound { WritesAtMost result buffer.now }
+        ensures some { TakesSome result buffer.now }
+        ensures bytes { WriteAppends (Some self.old.bytes) (Some self.new.bytes) result buffer.now }
         ensures cause { HasCause self.old.faults self.new.faults result }
 
-        ensures count { IfOk result (λ n. n ≡ taken_len self.old (length piece.now)) }
-        ensures ok { IfOk result (λ n. self.new ≡ after_write self.old (take n piece.now) self.new.room) }
+        ensures count { IfOk result (λ n. n ≡ taken_len self.old (length buffer.now)) }
+        ensures ok { IfOk result (λ n. self.new ≡ after_write self.old (take n buffer.now) self.new.room) }
         ensures room { self.old.room ≤ self.new.room }
 
         // A named call fails, and is no refusal.
@@ -107,7 +107,7 @@ impl Sink for MemorySink {
 
         // Any other call fails only where it has to grow, and is counted as a refusal.
         ensures grows { OnErr result (¬ FailsNext self.old.failing self.old.calls →
-            self.old.room < length self.old.bytes + taken_len self.old (length piece.now)) }
+            self.old.room < length self.old.bytes + taken_len self.old (length buffer.now)) }
         ensures refused { OnErr result (¬ FailsNext self.old.failing self.old.calls →
             self.new ≡ after_refused_write self.old self.new.room) }
     {
@@ -116,8 +116,8 @@ impl Sink for MemorySink {
             self.faults = self.faults.saturating_add(1);
             return Err(Failed);
         }
-        let count = self.at_most.min(piece.len());
-        if self.bytes.extend_from_slice(&piece[..count]).is_err() {
+        let count = self.at_most.min(buffer.len());
+        if self.bytes.extend_from_slice(&buffer[..count]).is_err() {
             self.faults = self.faults.saturating_add(1);
             self.refused = self.refused.saturating_add(1);
             return Err(Failed);

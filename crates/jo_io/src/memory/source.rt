@@ -69,19 +69,19 @@ impl Source for MemorySource {
 
     ghost faults = { λ s. s.faults };
 
-    /// Fails exactly at the named calls; else gives the least of `at_most`, the piece's length
+    /// Fails exactly at the named calls; else gives the least of `at_most`, the buffer's length
     /// and what is left.
-    fn read(&mut self, piece: &mut [u8]) -> Result<usize, Failed>
-        ensures bound { ReadsAtMost result piece.new }
-        ensures bytes { ReadConsumes (Some self.old.bytes) (Some self.new.bytes) result piece.new }
+    fn read(&mut self, buffer: &mut [u8]) -> Result<usize, Failed>
+        ensures bound { ReadsAtMost result buffer.new }
+        ensures bytes { ReadConsumes (Some self.old.bytes) (Some self.new.bytes) result buffer.new }
         ensures cause { HasCause self.old.faults self.new.faults result }
 
         ensures fails { IsErr result ↔ FailsNext self.old.failing self.old.calls }
-        ensures count { IfOk result (λ n. n ≡ given_len self.old (length piece.old)) }
-        ensures copied { IfOk result (λ n. piece.new ≡ take n self.old.bytes ++ drop n piece.old) }
+        ensures count { IfOk result (λ n. n ≡ given_len self.old (length buffer.old)) }
+        ensures copied { IfOk result (λ n. buffer.new ≡ take n self.old.bytes ++ drop n buffer.old) }
         ensures ok { IfOk result (λ n. self.new ≡ after_read self.old n) }
         ensures err { OnErr result (self.new ≡ after_failed_read self.old) }
-        ensures kept { OnErr result (piece.new ≡ piece.old) }
+        ensures kept { OnErr result (buffer.new ≡ buffer.old) }
     {
         self.calls = self.calls.saturating_add(1);
         if self.failing.contains(&self.calls) {
@@ -89,17 +89,17 @@ impl Source for MemorySource {
             return Err(Failed);
         }
         let left = &self.bytes[self.given..];
-        let count = self.at_most.min(piece.len()).min(left.len());
-        fill_front(piece, &left[..count]);
+        let count = self.at_most.min(buffer.len()).min(left.len());
+        fill_front(buffer, &left[..count]);
         self.given += count;
         Ok(count)
     }
 }
 
-// Copies the bytes to the front of the piece.
-fn fill_front(piece: &mut [u8], bytes: &[u8])
-    requires { length bytes.now ≤ length piece.old }
-    ensures { piece.new ≡ bytes.now ++ drop (length bytes.now) piece.old }
+// Copies the bytes to the front of the buffer.
+fn fill_front(buffer: &mut [u8], bytes: &[u8])
+    requires { length bytes.now ≤ length buffer.old }
+    ensures { buffer.new ≡ bytes.now ++ drop (length bytes.now) buffer.old }
 {
-    piece[..bytes.len()].copy_from_slice(bytes);
+    buffer[..bytes.len()].copy_from_slice(bytes);
 }

@@ -6,7 +6,7 @@ use jo_value::{Key, Value};
 use std::alloc::{AllocError, Global};
 use std::marker::Model;
 
-/// The objects of a pass, in order of number. Contracts see the list of them.
+/// The objects of a pass, in order of serial. Contracts see the list of them.
 #[derive(Drop)]
 pub struct PassObjects {
     objects: Vec<PlainObject>,
@@ -62,15 +62,15 @@ impl PassObjects {
         self.objects.len() as u16
     }
 
-    // Sets a property of the object with this number.
-    pub fn put(&mut self, number: u16, key: Key, value: Value) -> Result<Reply, AllocError>
-        requires born { number < length self.old }
+    // Sets a property of the object with this serial.
+    pub fn put(&mut self, serial: u16, key: Key, value: Value) -> Result<Reply, AllocError>
+        requires born { serial < length self.old }
         requires built { IsName key }
-        ensures reply { IfOk result (λ reply. reply ≡ (put_in (slice_index_or self.old number empty_object) key value).1) }
-        ensures ok { OnOk result (self.new ≡ slice_set self.old number (put_in (slice_index_or self.old number empty_object) key value).0) }
+        ensures reply { IfOk result (λ reply. reply ≡ (put_in (slice_index_or self.old serial empty_object) key value).1) }
+        ensures ok { OnOk result (self.new ≡ slice_set self.old serial (put_in (slice_index_or self.old serial empty_object) key value).0) }
         ensures err { OnErr result (self.new ≡ self.old) }
     {
-        let object = &mut self.objects[usize::from(number)];
+        let object = &mut self.objects[usize::from(serial)];
         object.put(key, value)
     }
 }

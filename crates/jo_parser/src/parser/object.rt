@@ -11,7 +11,7 @@ use jo_tree::{Object, Prop};
 use sqlite_items::Items;
 
 impl<'a> Parser<'a> {
-    /// An object behind its brace.
+    /// An object after its brace.
     #[cycle(parser)]
     #[tactic(auto, using(crate::proofs::Rules::reading), unfolding(jo_grammar::specs::Read::object_after))]
     pub(super) fn object(&mut self, inner: u8) -> Result<Object, Stop>
@@ -29,7 +29,7 @@ impl<'a> Parser<'a> {
         self.properties(inner, props)
     }
 
-    /// The rest of an object behind a property.
+    /// The rest of an object after a property.
     #[cycle(parser)]
     #[tactic(auto, using(crate::proofs::Rules::reading), unfolding(jo_grammar::specs::Read::props_from))]
     fn properties(&mut self, inner: u8, mut props: Items<Prop>) -> Result<Object, Stop>

@@ -67,7 +67,7 @@ impl<'a> Parser<'a> {
         Ok(Primary::Cas(Boxed::new(self.alloc, arguments)?))
     }
 
-    /// The arguments of `cas` behind their bracket.
+    /// The arguments of `cas` after their bracket.
     #[cycle(parser)]
     #[tactic(auto, using(crate::proofs::Rules::reading), unfolding(jo_grammar::specs::Read::cas_after))]
     fn arguments(&mut self, inner: u8) -> Result<Cas, Stop>

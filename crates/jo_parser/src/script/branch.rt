@@ -12,7 +12,7 @@ use jo_tree::{For, If, Keyword, Statement, While};
 use sqlite_items::Boxed;
 
 impl<'a> Parser<'a> {
-    /// An `if` behind its word.
+    /// An `if` after its word.
     #[cycle(statement)]
     #[tactic(auto, using(crate::proofs::ScriptRules::script_reading), unfolding(jo_grammar::specs::ReadStatements::if_after))]
     pub(crate) fn branch(&mut self, room: u8, loops: bool) -> Result<Statement, Stop>
@@ -42,7 +42,7 @@ impl<'a> Parser<'a> {
         Ok(Some(self.statement(room, loops)?))
     }
 
-    /// A `while` behind its word.
+    /// A `while` after its word.
     #[cycle(statement)]
     #[tactic(auto, using(crate::proofs::ScriptRules::script_reading), unfolding(jo_grammar::specs::ReadStatements::while_after))]
     pub(crate) fn while_loop(&mut self, room: u8) -> Result<Statement, Stop>
@@ -54,7 +54,7 @@ impl<'a> Parser<'a> {
         Ok(Statement::While(Boxed::new(self.alloc, turns)?))
     }
 
-    /// A `for` behind its word.
+    /// A `for` after its word.
     #[cycle(statement)]
     #[tactic(auto, using(crate::proofs::ScriptRules::script_reading), unfolding(jo_grammar::specs::ReadStatements::for_after))]
     pub(crate) fn for_loop(&mut self, room: u8) -> Result<Statement, Stop>

@@ -43,7 +43,7 @@ impl<'a> Parser<'a> {
         Ok(Binding { ident, value })
     }
 
-    /// The rest of a declaration behind a binding.
+    /// The rest of a declaration after a binding.
     #[tactic(auto, using(crate::proofs::ScriptRules::script_reading), unfolding(jo_grammar::specs::ReadStatements::bindings_from))]
     fn bindings(
         &mut self,
@@ -64,7 +64,7 @@ impl<'a> Parser<'a> {
         Err(Stop::Unexpected)
     }
 
-    /// A declaration behind its `let`.
+    /// A declaration after its `let`.
     #[tactic(auto, using(crate::proofs::ScriptRules::script_reading), unfolding(jo_grammar::specs::ReadStatements::let_after))]
     pub(crate) fn declaration(&mut self, room: u8, ins: bool) -> Result<Let, Stop>
         ensures { Reads let_list (spec.let_after room ins self.old.tokens) result self.new.tokens }

@@ -43,7 +43,7 @@ impl<'a> Parser<'a> {
         Err(Stop::Unexpected)
     }
 
-    /// A block behind its brace.
+    /// A block after its brace.
     #[cycle(statement)]
     #[tactic(auto, using(crate::proofs::ScriptRules::script_reading), unfolding(jo_grammar::specs::ReadStatements::block_after))]
     pub(crate) fn block(&mut self, room: u8, loops: bool) -> Result<Statement, Stop>

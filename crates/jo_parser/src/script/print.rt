@@ -12,7 +12,7 @@ use jo_tree::{Expr, Keyword, Statement};
 use sqlite_items::Items;
 
 impl<'a> Parser<'a> {
-    /// The rest of the arguments behind one.
+    /// The rest of the arguments after one.
     #[tactic(auto, using(crate::proofs::ScriptRules::script_reading), unfolding(jo_grammar::specs::ReadStatements::arguments_from))]
     fn more_arguments(&mut self, room: u8, mut found: Items<Expr>) -> Result<Items<Expr>, Stop>
         ensures { Reads trees_list (spec.arguments_from room (length self.old.tokens) (trees_list found) self.old.tokens) result self.new.tokens }
@@ -28,7 +28,7 @@ impl<'a> Parser<'a> {
         Err(Stop::Unexpected)
     }
 
-    /// Arguments behind their bracket.
+    /// Arguments after their bracket.
     #[tactic(auto, using(crate::proofs::ScriptRules::script_reading), unfolding(jo_grammar::specs::ReadStatements::arguments_after))]
     fn printed(&mut self, room: u8) -> Result<Items<Expr>, Stop>
         ensures { Reads trees_list (spec.arguments_after room self.old.tokens) result self.new.tokens }
@@ -42,7 +42,7 @@ impl<'a> Parser<'a> {
         self.more_arguments(room, found)
     }
 
-    /// A `print` behind its word.
+    /// A `print` after its word.
     #[tactic(auto, using(crate::proofs::ScriptRules::script_reading), unfolding(jo_grammar::specs::ReadStatements::print_after))]
     pub(crate) fn print(&mut self, room: u8) -> Result<Statement, Stop>
         ensures { Reads statement_tree (spec.print_after room self.old.tokens) result self.new.tokens }
@@ -53,7 +53,7 @@ impl<'a> Parser<'a> {
         Ok(Statement::Print(printed))
     }
 
-    /// A `printNames` behind its word.
+    /// A `printNames` after its word.
     #[tactic(auto, using(crate::proofs::ScriptRules::script_reading), unfolding(jo_grammar::specs::ReadStatements::print_names_after))]
     pub(crate) fn print_names(&mut self, room: u8) -> Result<Statement, Stop>
         ensures { Reads statement_tree (spec.print_names_after room self.old.tokens) result self.new.tokens }

@@ -2,12 +2,12 @@ use Rattle.std.proofs.Common.{◌≡◌, ◌≤◌, ◌-◌, length, vec_len}
 use Rattle.std.specs.Io.KnownBytes.{Consumes}
 use Rattle.jo_io.proofs.reading.read_all.Given as goal
 
-abbrev pub invariant-loop-piece : goal.invariant-loop-piece
-invariant-loop-piece g l = record {
+abbrev pub invariant-loop-buffer : goal.invariant-loop-buffer
+invariant-loop-buffer g l = record {
   read : Consumes (g.S.Source.left l.initial.source) (g.S.Source.left l.source) l.bytes.items;
   within : length l.bytes.items ≤ l.limit;
   same : g.S.Source.faults l.source ≡ g.S.Source.faults l.initial.source;
 }
 
-abbrev pub decreases-loop-piece : goal.decreases-loop-piece
-decreases-loop-piece g l = l.limit - vec_len l.bytes
+abbrev pub decreases-loop-buffer : goal.decreases-loop-buffer
+decreases-loop-buffer g l = l.limit - vec_len l.bytes

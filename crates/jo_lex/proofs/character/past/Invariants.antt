@@ -7,7 +7,7 @@ use Rattle.jo_lex.specs.Classes.{test_of, EndsWith}
 use Rattle.jo_lex.proofs.character.past.Given as goal
 
 abbrev pub invariant-loop-c : goal.invariant-loop-c
-invariant-loop-c l = shadow (Utf8 l.rest) × (drop_while (test_of l.class) (chars l.rest) ≡ drop_while (test_of l.class) (chars l.text)) × EndsWith l.text l.rest
+invariant-loop-c l = shadow (Utf8 l.rest) × (drop_while (test_of l.class) (chars l.rest) ≡ drop_while (test_of l.class) (chars l.input)) × EndsWith l.input l.rest
 
 abbrev pub decreases-loop-c : goal.decreases-loop-c
 decreases-loop-c l = length l.rest

@@ -11,18 +11,18 @@ returns-in-Some c =
     let p = c.args.punctuator.now in
     let rest = c.in-Some.rest.now in
     let found = c.in-Some.ensures.cases in
-    let split = starts-yes p c.args.text.now rest c.requires (found.1.1 ∙ ap (λ t. p ++ t) (sym found.2)) in
+    let split = starts-yes p c.args.input.now rest c.requires (found.1.1 ∙ ap (λ t. p ++ t) (sym found.2)) in
     let barred : (bytes_eq p (codes "?.") && begins_with is_digit (chars rest)) ≡ true = grind (arith, common_steps) in
-    fits-front p (chars c.args.text.now) (chars rest) true split barred
+    fits-front p (chars c.args.input.now) (chars rest) true split barred
 
 pub returns-in-Some-2 : goal.returns-in-Some-2
 returns-in-Some-2 c =
     let p = c.args.punctuator.now in
     let rest = c.in-Some.rest.now in
     let found = c.in-Some.ensures.cases in
-    let split = starts-yes p c.args.text.now rest c.requires (found.1.1 ∙ ap (λ t. p ++ t) (sym found.2)) in
+    let split = starts-yes p c.args.input.now rest c.requires (found.1.1 ∙ ap (λ t. p ++ t) (sym found.2)) in
     let barred : (bytes_eq p (codes "?.") && begins_with is_digit (chars rest)) ≡ false = grind (arith, common_steps) in
-    (fits-front p (chars c.args.text.now) (chars rest) false split barred, sym (drop-front p (chars c.args.text.now) (chars rest) split), omega arith)
+    (fits-front p (chars c.args.input.now) (chars rest) false split barred, sym (drop-front p (chars c.args.input.now) (chars rest) split), omega arith)
 
 pub returns-in-None : goal.returns-in-None
-returns-in-None c = fits-nowhere c.args.punctuator.now c.args.text.now c.requires c.utf8.text c.in-None.ensures.cases
+returns-in-None c = fits-nowhere c.args.punctuator.now c.args.input.now c.requires c.utf8.text c.in-None.ensures.cases

@@ -1,8 +1,8 @@
 use Rattle.std.proofs.Common.{drop}
-use Rattle.jo_parse.specs.CutScripts.{parts_of}
+use Rattle.jo_parse.specs.CutScripts.{sections_in}
 use Rattle.jo_parse.specs.Stages.{lists_of}
 use Rattle.jo_parse.proofs.Turns.{Reads}
 use Rattle.jo_parse.proofs.lex.token_lists.Given as goal
 
-abbrev pub invariant-loop-piece : goal.invariant-loop-piece
-invariant-loop-piece l = Reads l.fn.texts (parts_of l.pieces) l.texts (parts_of (drop l.piece-index l.pieces)) (lists_of l.lists.items)
+abbrev pub invariant-loop-section : goal.invariant-loop-section
+invariant-loop-section l = Reads l.fn.texts (sections_in l.sections) l.texts (sections_in (drop l.section-index l.sections)) (lists_of l.lists.items)

@@ -3,4 +3,4 @@ use Rattle.jo_model.specs.Rendered.{heap_text}
 use Rattle.jo_render.proofs.heap.add_heap.Given as goal
 
 abbrev pub invariant-loop-pass : goal.invariant-loop-pass
-invariant-loop-pass l = l.text.items ≡ l.initial.text.items ++ heap_text l.texts (take l.pass l.heap)
+invariant-loop-pass l = l.output.items ≡ l.initial.output.items ++ heap_text l.texts (take l.pass l.heap)

@@ -1,7 +1,7 @@
 use Rattle.std.proofs.Common.{◌≡◌, ◌++◌, codes, map, take}
-use Rattle.jo_render.specs.Pieces.{each_behind}
+use Rattle.jo_render.specs.Fragments.{each_after}
 use Rattle.jo_model.specs.Rendered.{name_text}
 use Rattle.jo_render.proofs.properties.add_names.Given as goal
 
 abbrev pub invariant-loop-name : goal.invariant-loop-name
-invariant-loop-name l = l.text.items ≡ l.initial.text.items ++ each_behind (codes ", ") (map (name_text l.texts) (take l.name-index l.names))
+invariant-loop-name l = l.output.items ≡ l.initial.output.items ++ each_after (codes ", ") (map (name_text l.texts) (take l.name-index l.names))

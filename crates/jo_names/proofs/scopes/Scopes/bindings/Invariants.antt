@@ -1,5 +1,5 @@
 use Rattle.std.proofs.Common.{◌≡◌, drop}
-use Rattle.jo_grammar.specs.Declarations.{behind_all, faults_of_bindings}
+use Rattle.jo_grammar.specs.Declarations.{scope_after_all, faults_of_bindings}
 use Rattle.jo_tree.specs.ScriptViews.{bindings_list}
 use Rattle.jo_names.specs.Blocks.{IsAlike, answer_to}
 use Rattle.jo_names.proofs.scopes.Scopes.bindings.Given as goal
@@ -7,5 +7,5 @@ use Rattle.jo_names.proofs.scopes.Scopes.bindings.Given as goal
 abbrev pub invariant-loop-binding : goal.invariant-loop-binding
 invariant-loop-binding l =
     (answer_to (faults_of_bindings l.fn.self.0 l.fn.self.1 (bindings_list l.bindings)) ≡ answer_to (faults_of_bindings l.self.0 l.self.1 (bindings_list (drop l.binding-index l.bindings))))
-    × IsAlike (behind_all l.self.0 (bindings_list (drop l.binding-index l.bindings))) (behind_all l.fn.self.0 (bindings_list l.bindings))
+    × IsAlike (scope_after_all l.self.0 (bindings_list (drop l.binding-index l.bindings))) (scope_after_all l.fn.self.0 (bindings_list l.bindings))
     × (l.self.1 ≡ l.fn.self.1)

@@ -9,10 +9,10 @@ returns-clause-bytes c =
     let bytes = c.self.inside.bytes.items in
     let start = c.self.inside.given in
     let count = c.min-count.result in
-    let copy = c.fill_front.new.piece in
-    let behind = drop count c.args.piece.now in
+    let copy = c.fill_front.new.buffer in
+    let after = drop count c.args.buffer.now in
     let fits : count ≤ length (drop start bytes) = grind (arith, common_steps) in
-    let copied : copy ≡ take count (drop start bytes) ++ behind = grind (arith, common_steps) in (
-      rw (← c.self.view_is) (copy-append-rest bytes copy behind start count fits copied),
+    let copied : copy ≡ take count (drop start bytes) ++ after = grind (arith, common_steps) in (
+      rw (← c.self.view_is) (copy-append-rest bytes copy after start count fits copied),
       λ none room. drop_all (start + count) bytes (omega arith),
     )

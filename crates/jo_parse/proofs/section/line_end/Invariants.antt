@@ -1,6 +1,6 @@
 use Rattle.std.proofs.Common.{◌≤◌, ◌-◌, length}
 use Rattle.jo_parse.proofs.Lines.{LacksFeedBelow}
-use Rattle.jo_parse.proofs.piece.line_end.Given as goal
+use Rattle.jo_parse.proofs.section.line_end.Given as goal
 
 abbrev pub invariant-loop-end : goal.invariant-loop-end
 invariant-loop-end l = (l.end ≤ length l.text) × LacksFeedBelow l.text l.end

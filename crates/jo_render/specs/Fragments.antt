@@ -1,4 +1,4 @@
--- Pieces of the output text.
+-- Fragments of the output text.
 use Rattle.std.specs.Prelude.{ℕ, ◌==◌, ◌||◌, List, [], ◌∷◌, ◌++◌, codes, map, flat_map, if◌then◌else◌}
 use Rattle.jo_value.specs.Texts.{Table}
 use Rattle.jo_model.specs.Objects.{Object}
@@ -6,8 +6,8 @@ use Rattle.jo_model.specs.Printed.{joined}
 use Rattle.jo_model.specs.Rendered.{element_text, name_text}
 
 -- texts one after another, with a text before each
-abbrev pub each_behind : List ℕ → List (List ℕ) → List ℕ
-each_behind between texts = flat_map (λ u. between ++ u) texts
+abbrev pub each_after : List ℕ → List (List ℕ) → List ℕ
+each_after between texts = flat_map (λ u. between ++ u) texts
 
 -- a byte as it stands between double quotes: a backslash or a double quote has a backslash before it
 abbrev pub escaped : ℕ → List ℕ

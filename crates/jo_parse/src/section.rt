@@ -3,8 +3,8 @@ ghost use Rattle.std.specs.Prelude.{◌≡◌, ◌+◌, ◌<◌, ◌≤◌, [], 
 ghost use Rattle.std.specs.Str.{IsCharBoundary};
 ghost use Rattle.jo_value.specs.declared.limits.TheConstants.{MOST_INPUT, MOST_SCRIPTS};
 ghost use Rattle.jo_lex.specs.Classes.{EndsWith};
-ghost use Rattle.jo_grammar.specs.Cuts.{AreWithin, is_separator, lines_of, pieces_of};
-ghost use Rattle.jo_parse.specs.CutScripts.{IsCutFault, one_too_many, parts_of, piece_of};
+ghost use Rattle.jo_grammar.specs.Cuts.{AreWithin, is_separator, lines_of, sections_of};
+ghost use Rattle.jo_parse.specs.CutScripts.{IsCutFault, one_too_many, sections_in, section_of};
 
 use jo_lex::{ParseFault, Refusal, RefusalKind};
 use jo_value::MOST_SCRIPTS;
@@ -12,7 +12,7 @@ use std::alloc::{AllocError, Global};
 
 /// A script of a set, and how many bytes stand before it.
 #[derive(Clone, Copy)]
-pub struct Piece<'a> {
+pub struct Section<'a> {
     pub start: u32,
     pub text: &'a str,
 }
@@ -26,7 +26,7 @@ fn front<'a>(text: &'a str, end: &str) -> &'a str
     front
 }
 
-// Where the first line of a text ends, behind its line feed. Most lines are short, so it goes byte by byte.
+// Where the first line of a text ends, after its line feed. Most lines are short, so it goes byte by byte.
 fn line_end(text: &str) -> usize
     requires { 0 < length text.now }
     ensures boundary { IsCharBoundary text.now result }
@@ -61,22 +61,22 @@ fn is_separator(line: &str) -> bool
 }
 
 // The script that goes from there to before the end, in a text that they end.
-fn script<'a>(text: &str, from: &'a str, end: &str) -> Piece<'a>
+fn script<'a>(text: &str, from: &'a str, end: &str) -> Section<'a>
     requires limit { length text.now ≤ MOST_INPUT }
     requires from { EndsWith text.now from.now }
     requires end { EndsWith from.now end.now }
     ensures start { result.start + length from.now ≡ length text.now }
     ensures text { from.now ≡ result.text.now ++ end.now }
 {
-    Piece {
+    Section {
         start: (text.len() - from.len()) as u32,
         text: front(from, end),
     }
 }
 
 // Adds a script to those before it.
-fn add<'a>(parts: &mut Vec<Piece<'a>>, part: Piece<'a>) -> Result<(), AllocError>
-    ensures ok { OnOk result (parts_of parts.new.items ≡ parts_of parts.old.items ++ piece_of part.entry ∷ []) }
+fn add<'a>(parts: &mut Vec<Section<'a>>, part: Section<'a>) -> Result<(), AllocError>
+    ensures ok { OnOk result (sections_in parts.new.items ≡ sections_in parts.old.items ++ section_of part.entry ∷ []) }
     ensures len { OnOk result (length parts.new.items ≡ length parts.old.items + 1) }
 {
     parts.push(part)?;
@@ -84,9 +84,9 @@ fn add<'a>(parts: &mut Vec<Piece<'a>>, part: Piece<'a>) -> Result<(), AllocError
 }
 
 // The refusal at the separator that ends this script.
-fn too_many(last: Piece<'_>) -> ParseFault
+fn too_many(last: Section<'_>) -> ParseFault
     requires { last.start + length last.text.now ≤ MOST_INPUT }
-    ensures { result ≡ one_too_many (piece_of last.entry) }
+    ensures { result ≡ one_too_many (section_of last.entry) }
 {
     ParseFault::Refused(Refusal {
         kind: RefusalKind::TooManyScripts,
@@ -95,10 +95,10 @@ fn too_many(last: Piece<'_>) -> ParseFault
 }
 
 /// The scripts of a set, which lines of `%%` separate; or the first separator that would begin a script too many.
-pub fn pieces<'a>(alloc: Global, text: &'a str) -> Result<Vec<Piece<'a>>, ParseFault>
+pub fn sections<'a>(alloc: Global, text: &'a str) -> Result<Vec<Section<'a>>, ParseFault>
     requires { length text.now ≤ MOST_INPUT }
-    ensures ok { IfOk result (λ parts. parts_of parts.items ≡ pieces_of text.now) }
-    ensures within { IfOk result (λ parts. AreWithin (length text.now) (parts_of parts.items)) }
+    ensures ok { IfOk result (λ parts. sections_in parts.items ≡ sections_of text.now) }
+    ensures within { IfOk result (λ parts. AreWithin (length text.now) (sections_in parts.items)) }
     ensures few { IfOk result (λ parts. length parts.items ≤ MOST_SCRIPTS) }
     ensures refused { IfErr result (IsCutFault text.now) }
 {

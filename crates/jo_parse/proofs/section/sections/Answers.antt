@@ -1,23 +1,23 @@
 use Rattle.std.proofs.Common.{◌≡◌, ◌+◌, ◌<◌, length, true, false, ap, refl, sym, subst, ◌∙◌, arith, rules}
 use Rattle.std.proofs.lemmas.List.{length-map, nil_from_length}
 use Rattle.jo_value.specs.declared.limits.TheConstants.{MOST_SCRIPTS}
-use Rattle.jo_grammar.specs.Cuts.{AreWithin, is_separator, pieces_of}
-use Rattle.jo_parse.specs.CutScripts.{IsCutFault, parts_of, piece_of}
+use Rattle.jo_grammar.specs.Cuts.{AreWithin, is_separator, sections_of}
+use Rattle.jo_parse.specs.CutScripts.{IsCutFault, sections_in, section_of}
 use Rattle.jo_parse.proofs.Cutting.{IsUnderWay, begun, gone-on, begun-anew, last-is, one-too-many}
-use Rattle.jo_parse.proofs.Bounds.{pieces_are_within}
-use Rattle.jo_parse.proofs.piece.pieces.Goals as goal
+use Rattle.jo_parse.proofs.Bounds.{sections_are_within}
+use Rattle.jo_parse.proofs.section.sections.Goals as goal
 
 pub loop-line-init : goal.loop-line-init
 loop-line-init c =
     let text = c.args.text.now in
-    (search rules, search rules, subst (IsUnderWay text text text) (sym (ap parts_of c.new-parts.ensures.items)) (begun text))
+    (search rules, search rules, subst (IsUnderWay text text text) (sym (ap sections_in c.new-parts.ensures.items)) (begun text))
 
 pub returns-then-len-eq-MOST_SCRIPTS-clause-refused : goal.returns-then-len-eq-MOST_SCRIPTS-clause-refused
 returns-then-len-eq-MOST_SCRIPTS-clause-refused c =
-    let parts = parts_of c.loop-line.parts.items in
-    let part = piece_of c.script-part.result in
+    let parts = sections_in c.loop-line.parts.items in
+    let part = section_of c.script-part.result in
     let is : is_separator c.first_line.result.0.now ≡ true = search rules in
-    let full : length parts + 1 ≡ MOST_SCRIPTS = omega (arith, length-map c.loop-line.parts.items piece_of) in
+    let full : length parts + 1 ≡ MOST_SCRIPTS = omega (arith, length-map c.loop-line.parts.items section_of) in
     subst (IsCutFault c.args.text.now) (sym c.too_many.ensures) (
       refl,
       one-too-many c.args.text.now c.loop-line.from.now c.loop-line.rest.now c.first_line.result.0.now c.first_line.result.1.now part.text part.start parts c.loop-line.invariant.2
@@ -26,10 +26,10 @@ returns-then-len-eq-MOST_SCRIPTS-clause-refused c =
 
 pub loop-line-preserved-in_ok-add : goal.loop-line-preserved-in_ok-add
 loop-line-preserved-in_ok-add c =
-    let parts = parts_of c.loop-line.parts.items in
-    let part = piece_of c.script-part.result in
+    let parts = sections_in c.loop-line.parts.items in
+    let part = section_of c.script-part.result in
     let is : is_separator c.first_line.result.0.now ≡ true = search rules in
-    let few : length parts + 1 < MOST_SCRIPTS = omega (arith, c.loop-line.invariant.2.few, length-map c.loop-line.parts.items piece_of) in (
+    let few : length parts + 1 < MOST_SCRIPTS = omega (arith, c.loop-line.invariant.2.few, length-map c.loop-line.parts.items section_of) in (
       search rules,
       search rules,
       subst (IsUnderWay c.args.text.now c.first_line.result.1.now c.first_line.result.1.now) (sym c.in_ok-add.ensures.ok)
@@ -42,20 +42,20 @@ loop-line-preserved c =
     let plain : is_separator c.first_line.result.0.now ≡ false = search rules in (
       search rules,
       search rules,
-      gone-on c.args.text.now c.loop-line.from.now c.loop-line.rest.now c.first_line.result.0.now c.first_line.result.1.now (parts_of c.loop-line.parts.items) c.loop-line.invariant.2
+      gone-on c.args.text.now c.loop-line.from.now c.loop-line.rest.now c.first_line.result.0.now c.first_line.result.1.now (sections_in c.loop-line.parts.items) c.loop-line.invariant.2
           c.first_line.ensures.lines c.first_line.ensures.parts plain,
     )
 
-cut-ok : (c : goal.In_ok-add-2) → parts_of c.add-2.new.parts.items ≡ pieces_of c.args.text.now
+cut-ok : (c : goal.In_ok-add-2) → sections_in c.add-2.new.parts.items ≡ sections_of c.args.text.now
 cut-ok c =
-    let part = piece_of c.script.result in
+    let part = section_of c.script.result in
     let none : length c.loop-line.rest.now ≡ 0 = search rules in
     c.in_ok-add-2.ensures.ok
-    ∙ last-is c.args.text.now c.loop-line.from.now c.loop-line.rest.now part.text part.start (parts_of c.loop-line.parts.items) c.loop-line.invariant.2
+    ∙ last-is c.args.text.now c.loop-line.from.now c.loop-line.rest.now part.text part.start (sections_in c.loop-line.parts.items) c.loop-line.invariant.2
     (nil_from_length c.loop-line.rest.now none) c.script.ensures.start c.script.ensures.text
 
 pub returns-clause-ok : goal.returns-clause-ok
 returns-clause-ok c = cut-ok c
 
 pub returns-clause-within : goal.returns-clause-within
-returns-clause-within c = subst (AreWithin (length c.args.text.now)) (sym (cut-ok c)) (pieces_are_within c.args.text.now)
+returns-clause-within c = subst (AreWithin (length c.args.text.now)) (sym (cut-ok c)) (sections_are_within c.args.text.now)

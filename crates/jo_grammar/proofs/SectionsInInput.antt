@@ -1,11 +1,11 @@
--- The pieces of a text: each is a text, and none is longer than the whole.
+-- The sections of a text: each is a text, and none is longer than the whole.
 use Rattle.std.proofs.Common.{◌≡◌, ℕ, ◌+◌, ◌≤◌, ◌==◌, Bool, true, false, List, [], ◌∷◌, ◌++◌, length, if◌then◌else◌, get_or, refl, sym, ap, subst, ◌∙◌, arith, append_assoc, append-nil, length-append, take_at, drop_at}
 use Rattle.std.proofs.Math.Seq.{get_or-append_seam}
 use Rattle.std.proofs.lemmas.Bool.{eqb-true}
 use Rattle.std.proofs.lemmas.Str.{IsUtf8-nil, IsUtf8-append, IsUtf8-take, IsUtf8-drop, IsCharBoundary-after_ascii}
 use Rattle.std.specs.List.{concat}
 use Rattle.std.specs.Str.{IsUtf8, IsCharBoundary}
-use Rattle.jo_grammar.specs.Cuts.{Piece, with_first, lines_of, is_separator, pieces_from, pieces_of}
+use Rattle.jo_grammar.specs.Cuts.{Section, with_first, lines_of, is_separator, sections_from, sections_of}
 
 -- ---- lines
 
@@ -56,9 +56,9 @@ abbrev AreTexts : List (List ℕ) → Type 0
 AreTexts [] = Unit {0}
 AreTexts (line ∷ lines) = IsUtf8 line × AreTexts lines
 
--- behind a line feed a text may be cut
-cut-behind : (front rest : List ℕ) → IsUtf8 ((front ++ 10 ∷ []) ++ rest) → IsUtf8 (front ++ 10 ∷ []) × IsUtf8 rest
-cut-behind front rest u =
+-- after a line feed a text may be cut
+cut-after : (front rest : List ℕ) → IsUtf8 ((front ++ 10 ∷ []) ++ rest) → IsUtf8 (front ++ 10 ∷ []) × IsUtf8 rest
+cut-after front rest u =
     let line = front ++ 10 ∷ [] in
     let n = length front in
     let size : length line ≡ n + 1 = omega (arith, length-append front (10 ∷ [])) in
@@ -70,7 +70,7 @@ first-text : (line : List ℕ) (lines : List (List ℕ)) → IsEnded line lines 
 first-text line [] h u = (subst IsUtf8 (append-nil line) u, IsUtf8-nil)
 first-text line (next ∷ lines) h u =
     let rest = concat (next ∷ lines) in
-    let parts = cut-behind h.0 rest (subst (λ t. IsUtf8 (t ++ rest)) h.1 u) in
+    let parts = cut-after h.0 rest (subst (λ t. IsUtf8 (t ++ rest)) h.1 u) in
     (subst IsUtf8 (sym h.1) parts.0, parts.1)
 
 lines-texts : (lines : List (List ℕ)) → AreEnded lines → IsUtf8 (concat lines) → AreTexts lines
@@ -81,13 +81,13 @@ lines-texts (line ∷ lines) h u =
 
 -- ---- scripts
 
--- each piece is a text of at most so many bytes
-abbrev pub AreShort : ℕ → List Piece → Type 0
+-- each section is a text of at most so many bytes
+abbrev pub AreShort : ℕ → List Section → Type 0
 AreShort most [] = Unit {0}
-AreShort most (piece ∷ pieces) = IsUtf8 piece.text × (length piece.text ≤ most) × AreShort most pieces
+AreShort most (section ∷ sections) = IsUtf8 section.text × (length section.text ≤ most) × AreShort most sections
 
-cut-short : (most start : ℕ) (text : List ℕ) (lines : List (List ℕ)) → IsUtf8 text → AreTexts lines → length text + length (concat lines) ≤ most → AreShort most (pieces_from start text lines)
-unfolding pieces_from
+cut-short : (most start : ℕ) (text : List ℕ) (lines : List (List ℕ)) → IsUtf8 text → AreTexts lines → length text + length (concat lines) ≤ most → AreShort most (sections_from start text lines)
+unfolding sections_from
 cut-short most start text [] u us le = (u, omega (arith, le), tt)
 cut-short most start text (line ∷ lines) u us le =
     let whole = length-append line (concat lines) in
@@ -95,26 +95,26 @@ cut-short most start text (line ∷ lines) u us le =
     (cut-short most (start + length text + length line) [] lines IsUtf8-nil us.1 (omega (arith, le, whole)))
     (cut-short most start (text ++ line) lines (IsUtf8-append text line u us.0) us.1 (omega (arith, le, whole, length-append text line)))
   where
-    step : (k : Bool) → AreShort most (pieces_from (start + length text + length line) [] lines) → AreShort most (pieces_from start (text ++ line) lines)
-        → AreShort most (if k then record { start = start; text = text } ∷ pieces_from (start + length text + length line) [] lines else pieces_from start (text ++ line) lines)
+    step : (k : Bool) → AreShort most (sections_from (start + length text + length line) [] lines) → AreShort most (sections_from start (text ++ line) lines)
+        → AreShort most (if k then record { start = start; text = text } ∷ sections_from (start + length text + length line) [] lines else sections_from start (text ++ line) lines)
     step true anew further = (u, omega (arith, le), anew)
     step false anew further = further
 
-pub pieces-short : (bytes : List ℕ) → IsUtf8 bytes → AreShort (length bytes) (pieces_of bytes)
-pieces-short bytes u =
+pub sections-short : (bytes : List ℕ) → IsUtf8 bytes → AreShort (length bytes) (sections_of bytes)
+sections-short bytes u =
     let join = lines-join bytes in
     cut-short (length bytes) 0 [] (lines_of bytes) IsUtf8-nil (lines-texts (lines_of bytes) (lines-ended bytes) (subst IsUtf8 (sym join) u)) (omega (arith, ap length join))
 
-cut-some : (start : ℕ) (text : List ℕ) (lines : List (List ℕ)) → 1 ≤ length (pieces_from start text lines)
-unfolding pieces_from
+cut-some : (start : ℕ) (text : List ℕ) (lines : List (List ℕ)) → 1 ≤ length (sections_from start text lines)
+unfolding sections_from
 cut-some start text [] = omega arith
 cut-some start text (line ∷ lines) = step (is_separator line) (cut-some start (text ++ line) lines)
   where
-    step : (k : Bool) → 1 ≤ length (pieces_from start (text ++ line) lines)
-        → 1 ≤ length (if k then record { start = start; text = text } ∷ pieces_from (start + length text + length line) [] lines else pieces_from start (text ++ line) lines)
+    step : (k : Bool) → 1 ≤ length (sections_from start (text ++ line) lines)
+        → 1 ≤ length (if k then record { start = start; text = text } ∷ sections_from (start + length text + length line) [] lines else sections_from start (text ++ line) lines)
     step true further = omega arith
     step false further = further
 
--- there is a piece
-pub pieces-some : (bytes : List ℕ) → 1 ≤ length (pieces_of bytes)
-pieces-some bytes = cut-some 0 [] (lines_of bytes)
+-- there is a section
+pub sections-some : (bytes : List ℕ) → 1 ≤ length (sections_of bytes)
+sections-some bytes = cut-some 0 [] (lines_of bytes)

@@ -2,7 +2,7 @@ use Rattle.std.proofs.Common.{◌≡◌, ◌<◌, length, get_or, arith}
 use Rattle.std.proofs.lemmas.Grind.{common_steps}
 use Rattle.std.proofs.lemmas.Str.{IsCharBoundary-after_ascii}
 use Rattle.jo_parse.proofs.Lines.{ends-at-feed, ends-with-text}
-use Rattle.jo_parse.proofs.piece.line_end.Goals as goal
+use Rattle.jo_parse.proofs.section.line_end.Goals as goal
 
 pub returns-then-bytes-end-eq10-clause-boundary : goal.returns-then-bytes-end-eq10-clause-boundary
 returns-then-bytes-end-eq10-clause-boundary c =
