@@ -4,13 +4,12 @@ use Rattle.std.specs.Prelude.{ℕ, ℤ, Bool, false, not, ◌==◌, nat_le, if�
 use Rattle.std.specs.List.{list_any}
 use Rattle.jo_value.specs.declared.limits.TheConstants.{MOST_NAMES}
 use Rattle.jo_value.specs.declared.value.NameId.{NameId}
-use Rattle.jo_value.specs.Texts.{Table}
+use Rattle.jo_value.specs.Texts.{Table, text_in, is_digit}
 use Rattle.jo_tree.specs.declared.keyword.Keyword.TheVariants as keyword
 use Rattle.jo_tree.specs.declared.operator.AssignOperator.TheVariants as assign_op
 use Rattle.jo_tree.specs.declared.word.Name.{Name as Word}
 use Rattle.jo_tree.specs.Trees.{Tree, number, constant, member, assign, no_accesses, field, Statement, print, evaluate, Items, no_items, declare, perform}
-use Rattle.jo_model.specs.Printed.{text_in}
-use Rattle.jo_meaning.specs.Keys.{is_digit, name_id}
+use Rattle.jo_meaning.specs.Keys.{name_id}
 use Rattle.jo_form.specs.declared.form.Step.{Step}
 use Rattle.jo_form.specs.declared.form.Step.TheVariants as step
 

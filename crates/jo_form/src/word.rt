@@ -1,21 +1,9 @@
 // Words that name properties.
 ghost use Rattle.std.specs.Prelude.{◌≡◌};
-ghost use Rattle.jo_model.specs.Printed.{text_in};
 ghost use Rattle.jo_form.specs.Forms.{is_word, name_with, name_of};
 
 use jo_tree::Name;
 use jo_value::{NameId, TextId, Texts};
-
-// The bytes of the text with a number; none where the table lacks it.
-fn text(texts: &Texts, id: TextId) -> &[u8]
-    ensures { result.now ≡ text_in texts.now id.0 }
-{
-    if id.0 < texts.len() {
-        texts.bytes(id)
-    } else {
-        b""
-    }
-}
 
 // Whether the text can be a word: it is not empty, and does not begin with a digit.
 fn is_word(text: &[u8]) -> bool
@@ -31,7 +19,7 @@ fn is_word(text: &[u8]) -> bool
 fn name_with(texts: &Texts, id: TextId) -> Option<NameId>
     ensures { result ≡ name_with texts.now id.0 }
 {
-    if is_word(text(texts, id)) {
+    if is_word(texts.bytes(id)) {
         Some(NameId(id.0))
     } else {
         None

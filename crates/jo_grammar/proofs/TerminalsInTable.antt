@@ -5,7 +5,7 @@ use Rattle.std.proofs.lemmas.Cmp.{nat_list_eq_equiv}
 use Rattle.std.specs.List.{find, take_while, prefix_len, position_or_len}
 use Rattle.std.specs.Str.{bytes_eq}
 use Rattle.jo_value.specs.declared.value.TextId.{TextId}
-use Rattle.jo_value.specs.Texts.{Table, id_in}
+use Rattle.jo_value.specs.Texts.{Table, id_in, text_in}
 use Rattle.jo_lex.specs.declared.token.Token.{Token}
 use Rattle.jo_lex.specs.declared.token.TokenKind.{TokenKind}
 use Rattle.jo_lex.specs.declared.token.TokenKind.TheVariants as kind
@@ -13,7 +13,7 @@ use Rattle.jo_lex.specs.Tokens.{end_token}
 use Rattle.jo_tree.specs.declared.keyword.Keyword.{Keyword}
 use Rattle.jo_tree.specs.declared.keyword.TheConstants.{KEYWORDS}
 use Rattle.jo_tree.specs.Words.{keyword_text, keyword_of}
-use Rattle.jo_grammar.specs.Terminals.{text_at, keyword_or_reserved, kind_terminal, terminal_of, is_end, terminals_of}
+use Rattle.jo_grammar.specs.Terminals.{keyword_or_reserved, kind_terminal, terminal_of, is_end, terminals_of}
 use Rattle.jo_grammar.proofs.GoodMarks.{IsGood, AreGood}
 use Rattle.jo_grammar.proofs.TokensInTable.{IsGoodKind, AreGoodTokens}
 
@@ -43,19 +43,19 @@ place-within p (x ∷ xs) (suc i) d le e = step (p x) (place-within p xs i d (om
     step false h = omega (arith, h)
 
 -- the text of a keyword that a number of the table means is in the table
-keyword-within : (texts : Table) (id : TextId) (w : Keyword) → id.0 < length texts → keyword_of (text_at texts id) ≡ Some w → id_in texts (keyword_text w) < length texts
+keyword-within : (texts : Table) (id : TextId) (w : Keyword) → id.0 < length texts → keyword_of (text_in texts id.0) ≡ Some w → id_in texts (keyword_text w) < length texts
 keyword-within texts id w h e =
-    place-within (λ t. bytes_eq t (keyword_text w)) texts id.0 [] h (nat_list_eq_equiv.symm (text_at texts id) (keyword_text w) ∙ keyword-has (text_at texts id) w e)
+    place-within (λ t. bytes_eq t (keyword_text w)) texts id.0 [] h (nat_list_eq_equiv.symm (text_in texts id.0) (keyword_text w) ∙ keyword-has (text_in texts id.0) w e)
 
 -- ---- terminals
 
-reserved-good : (texts : Table) (id : TextId) (found : Option Keyword) → keyword_of (text_at texts id) ≡ found → id.0 < length texts → IsGood texts (keyword_or_reserved id found)
+reserved-good : (texts : Table) (id : TextId) (found : Option Keyword) → keyword_of (text_in texts id.0) ≡ found → id.0 < length texts → IsGood texts (keyword_or_reserved id found)
 reserved-good texts id None e h = h
 reserved-good texts id (Some w) e h = keyword-within texts id w h e
 
 terminal-good : (texts : Table) (place : ℕ) (k : TokenKind) → IsGoodKind (length texts) k → IsGood texts (kind_terminal texts place k)
 terminal-good texts place (kind.Word id) h = h
-terminal-good texts place (kind.Reserved id) h = reserved-good texts id (keyword_of (text_at texts id)) refl h
+terminal-good texts place (kind.Reserved id) h = reserved-good texts id (keyword_of (text_in texts id.0)) refl h
 terminal-good texts place (kind.Number i) h = h
 terminal-good texts place (kind.Text id) h = h
 terminal-good texts place (kind.Punct c) h = tt

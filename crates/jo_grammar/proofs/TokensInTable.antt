@@ -6,14 +6,14 @@ use Rattle.std.specs.Str.{encode_utf8_all}
 use Rattle.std.specs.Prelude.{pos}
 use Rattle.jo_value.specs.declared.limits.TheConstants.{MOST_NUMBER, MOST_TEXT_BYTES}
 use Rattle.jo_value.specs.declared.value.TextId.{TextId}
-use Rattle.jo_value.specs.Texts.{Table, id_in, interned}
+use Rattle.jo_value.specs.Texts.{Table, id_in, interned, is_digit}
 use Rattle.jo_value.proofs.Places.{place_within}
 use Rattle.jo_lex.specs.declared.punct.Punct.{Punct}
 use Rattle.jo_lex.specs.declared.token.Token.{Token}
 use Rattle.jo_lex.specs.declared.token.TokenKind.{TokenKind}
 use Rattle.jo_lex.specs.declared.token.TokenKind.TheVariants as kind
 use Rattle.jo_lex.specs.declared.refusal.RefusalKind.TheVariants.{BadToken, NumberTooLarge}
-use Rattle.jo_lex.specs.Characters.{Characters, size, is_blank, is_digit, is_in_line, is_word_part, is_word_start, is_spoiler, begins_with, drop_while}
+use Rattle.jo_lex.specs.Characters.{Characters, size, is_blank, is_in_line, is_word_part, is_word_start, is_spoiler, begins_with, drop_while}
 use Rattle.jo_lex.specs.Punctuators.{Entry, punctuator_of}
 use Rattle.jo_lex.specs.Words.{is_reserved}
 use Rattle.jo_lex.specs.Pieces.{Lexeme, word, text, number, punctuator, Piece, gap, lexeme, fault, after_close, closed, comment, word_piece, quoted, text_piece, decimal, judged, number_piece, accepted, punctuator_piece, token_piece, piece}

@@ -1,9 +1,9 @@
 -- The terminals of a script's tokens.
-use Rattle.std.specs.Prelude.{ℕ, Bool, true, false, not, List, [], map, Option, None, Some, codes, slice_index_or}
+use Rattle.std.specs.Prelude.{ℕ, Bool, true, false, not, List, [], map, Option, None, Some, codes}
 use Rattle.std.specs.List.{take_while}
 use Rattle.std.specs.Str.{bytes_eq}
 use Rattle.jo_value.specs.declared.value.TextId.{TextId}
-use Rattle.jo_value.specs.Texts.{Table}
+use Rattle.jo_value.specs.Texts.{Table, text_in}
 use Rattle.jo_lex.specs.declared.token.Token.{Token}
 use Rattle.jo_lex.specs.declared.token.TokenKind.{TokenKind}
 use Rattle.jo_lex.specs.declared.token.TokenKind.TheVariants as kind
@@ -12,19 +12,15 @@ use Rattle.jo_grammar.specs.declared.terminal.Terminal.{Terminal}
 use Rattle.jo_grammar.specs.declared.terminal.Terminal.TheVariants as t
 use Rattle.jo_tree.specs.Words.{keyword_of}
 
--- the text of the number, or an empty one where the table has none
-abbrev pub text_at : Table → TextId → List ℕ
-text_at table id = slice_index_or table id.0 []
-
 abbrev pub is_proto : Table → TextId → Bool
-is_proto table id = bytes_eq (text_at table id) (codes "__proto__")
+is_proto table id = bytes_eq (text_in table id.0) (codes "__proto__")
 
 abbrev pub keyword_or_reserved : TextId → Option Keyword → Terminal
 keyword_or_reserved id None = t.Reserved id
 keyword_or_reserved id (Some w) = t.Keyword w
 
 abbrev pub reserved : Table → TextId → Terminal
-reserved table id = keyword_or_reserved id (keyword_of (text_at table id))
+reserved table id = keyword_or_reserved id (keyword_of (text_in table id.0))
 
 -- a token of the kind at the place
 abbrev pub kind_terminal : Table → ℕ → TokenKind → Terminal

@@ -5,11 +5,11 @@ use Rattle.std.specs.List.{take_while, list_all}
 use Rattle.std.specs.Str.{encode_utf8_all}
 use Rattle.std.specs.Prelude.{encode_utf8, IfSome, pos}
 use Rattle.jo_value.specs.declared.limits.TheConstants.{MOST_NUMBER, MOST_TEXT_BYTES}
-use Rattle.jo_value.specs.Texts.{Table}
+use Rattle.jo_value.specs.Texts.{Table, is_digit}
 use Rattle.jo_lex.specs.declared.punct.Punct.{Punct}
 use Rattle.jo_lex.specs.declared.refusal.RefusalKind.TheVariants.{BadToken, NumberTooLarge}
 use Rattle.jo_lex.specs.declared.token.TokenKind.{TokenKind}
-use Rattle.jo_lex.specs.Characters.{Characters, size, is_blank, is_in_line, is_digit, is_word_part, is_word_start, is_spoiler, begins_with, drop_while}
+use Rattle.jo_lex.specs.Characters.{Characters, size, is_blank, is_in_line, is_word_part, is_word_start, is_spoiler, begins_with, drop_while}
 use Rattle.jo_lex.specs.Punctuators.{Entry, fits, longer, longest, table, punctuator_of}
 use Rattle.jo_lex.specs.Pieces.{word, text, number, Piece, gap, lexeme, fault, after_close, closed, comment, word_piece, is_escapable, with_front, quoted, text_piece, decimal, judged, number_piece, accepted, punctuator_piece, token_piece, piece}
 use Rattle.jo_lex.specs.Tokens.{Progress, Advance, ended, refused, onward, token_kind, with_token, taken, next_of, next, going_on, reached, last}

@@ -5,7 +5,8 @@ use Rattle.std.specs.List.{take_while}
 use Rattle.std.specs.Str.{encode_utf8_all}
 use Rattle.jo_value.specs.declared.limits.TheConstants.{MOST_TEXT_BYTES}
 use Rattle.jo_lex.specs.declared.refusal.RefusalKind.TheVariants.{BadToken}
-use Rattle.jo_lex.specs.Characters.{Characters, is_digit, is_word_part, drop_while}
+use Rattle.jo_lex.specs.Characters.{Characters, is_word_part, drop_while}
+use Rattle.jo_value.specs.Texts.{is_digit}
 use Rattle.jo_lex.specs.Pieces.{Lexeme, word, lexeme, fault, decimal, with_front, limited, word_piece, number_piece, judged}
 
 digit_capped : (cap m n k : ℕ) → min m cap ≡ min n cap → min (m * 10 + k) cap ≡ min (n * 10 + k) cap

@@ -6,7 +6,8 @@ use Rattle.std.proofs.lemmas.Slice.Eq.{starts_is}
 use Rattle.std.proofs.lemmas.Str.{chars-append, chars-IsAscii, IsUtf8-from_ascii, encodes-chars, encodes-append, encodes-IsAscii}
 use Rattle.std.specs.List.{starts_with}
 use Rattle.std.specs.Prelude.{codes}
-use Rattle.jo_lex.specs.Characters.{begins_with, is_digit}
+use Rattle.jo_lex.specs.Characters.{begins_with}
+use Rattle.jo_value.specs.Texts.{is_digit}
 use Rattle.std.specs.Str.{bytes_eq, chars, encode_utf8_all, IsUtf8, IsAscii}
 use Rattle.jo_lex.specs.declared.punct.Punct.{Punct}
 use Rattle.jo_lex.specs.Punctuators.{Entry, fits, longer, longest}

@@ -27,10 +27,6 @@ is_blank c = is_space c || is_line_end c
 abbrev pub is_in_line : ℕ → Bool
 is_in_line c = not (is_line_end c)
 
--- `0` to `9`
-abbrev pub is_digit : ℕ → Bool
-is_digit c = nat_le 48 c && nat_le c 57
-
 -- the two joiners, which are in no word whatever Unicode says of them
 abbrev pub is_joiner : ℕ → Bool
 is_joiner c = c == 0x200C || c == 0x200D

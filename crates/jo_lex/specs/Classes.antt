@@ -2,7 +2,8 @@
 use Rattle.std.specs.Prelude.{◌≡◌, ℕ, Bool, List, ◌++◌}
 use Rattle.jo_lex.specs.declared.character.Class.{Class}
 use Rattle.jo_lex.specs.declared.character.Class.TheVariants as class
-use Rattle.jo_lex.specs.Characters.{is_blank, is_in_line, is_digit, is_word_start, is_word_part, is_spoiler}
+use Rattle.jo_lex.specs.Characters.{is_blank, is_in_line, is_word_start, is_word_part, is_spoiler}
+use Rattle.jo_value.specs.Texts.{is_digit}
 
 -- the test that the characters of a class pass
 abbrev pub test_of : Class → ℕ → Bool

@@ -6,7 +6,8 @@ use Rattle.jo_value.specs.declared.limits.TheConstants.{MOST_NUMBER, MOST_TEXT_B
 use Rattle.jo_lex.specs.declared.punct.Punct.{Punct}
 use Rattle.jo_lex.specs.declared.refusal.RefusalKind.{RefusalKind}
 use Rattle.jo_lex.specs.declared.refusal.RefusalKind.TheVariants.{BadToken, NumberTooLarge}
-use Rattle.jo_lex.specs.Characters.{Characters, is_blank, is_in_line, is_digit, is_word_start, is_word_part, is_spoiler, begins_with, drop_while}
+use Rattle.jo_lex.specs.Characters.{Characters, is_blank, is_in_line, is_word_start, is_word_part, is_spoiler, begins_with, drop_while}
+use Rattle.jo_value.specs.Texts.{is_digit}
 use Rattle.jo_lex.specs.Punctuators.{Entry, punctuator_of}
 
 -- a token without its place: a word's bytes, a number, the bytes that a text literal stands for, or a punctuator

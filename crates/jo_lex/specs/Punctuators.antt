@@ -5,7 +5,8 @@ use Rattle.std.specs.List.{starts_with}
 use Rattle.std.specs.Str.{bytes_eq}
 use Rattle.jo_lex.specs.declared.punct.Punct.{Punct}
 use Rattle.jo_lex.specs.declared.punct.Punct.TheVariants.{OpenBrace, CloseBrace, OpenParen, CloseParen, OpenBracket, CloseBracket, Dot, Semicolon, Comma, Less, Greater, LessEqual, GreaterEqual, Same, NotSame, Plus, Minus, Star, Percent, Bang, AndAnd, OrOr, Question, Colon, Assign, PlusAssign, MinusAssign}
-use Rattle.jo_lex.specs.Characters.{Characters, is_digit, begins_with}
+use Rattle.jo_lex.specs.Characters.{Characters, begins_with}
+use Rattle.jo_value.specs.Texts.{is_digit}
 
 -- a punctuator's characters, which are ASCII, and its value where it is accepted
 abbrev pub Entry : Type 0

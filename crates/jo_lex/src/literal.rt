@@ -4,7 +4,7 @@ ghost use Rattle.std.specs.Option.{option_map};
 ghost use Rattle.std.specs.Str.{chars};
 ghost use Rattle.std.specs.String.{string_bytes};
 ghost use Rattle.jo_value.specs.declared.limits.TheConstants.{MOST_NUMBER};
-ghost use Rattle.jo_lex.specs.Characters.{is_digit};
+ghost use Rattle.jo_value.specs.Texts.{is_digit};
 ghost use Rattle.jo_lex.specs.Pieces as spec;
 ghost use Rattle.jo_lex.specs.Views.{piece_of, stroke_of, IsWithin};
 

@@ -5,7 +5,7 @@ use Rattle.jo_value.specs.declared.value.Key.{Key}
 use Rattle.jo_value.specs.declared.value.Key.TheVariants.{Name, Index}
 use Rattle.jo_value.specs.declared.value.Value.{Value}
 use Rattle.jo_value.specs.declared.value.Value.TheVariants as value
-use Rattle.jo_value.specs.Texts.{Table, id_in}
+use Rattle.jo_value.specs.Texts.{Table, id_in, is_digit}
 use Rattle.jo_tree.specs.Words.{keyword_text}
 use Rattle.jo_tree.specs.declared.word.Name.{Name as Word}
 use Rattle.jo_tree.specs.declared.word.Name.TheVariants as word
@@ -16,10 +16,6 @@ use Rattle.jo_model.specs.declared.call.Outcome.TheVariants.{KeyOutside}
 use Rattle.jo_meaning.specs.Values.{is_empty}
 
 -- ---- texts that are array indexes
-
--- the byte is one of `0` to `9`
-abbrev pub is_digit : ℕ → Bool
-is_digit b = nat_le 48 b && nat_le b 57
 
 -- the number that decimal digits go on to, where others stand before them
 abbrev pub digits_from : ℕ → List ℕ → Option ℕ

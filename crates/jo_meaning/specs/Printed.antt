@@ -2,9 +2,9 @@
 use Rattle.std.specs.Prelude.{ℕ, ◌+◌, nat_le, if◌then◌else◌, List, [], ◌∷◌, ◌++◌, codes, length, map}
 use Rattle.jo_value.specs.declared.limits.TheConstants.{MOST_LINE_BYTES}
 use Rattle.jo_value.specs.declared.value.NameId.{NameId}
-use Rattle.jo_value.specs.Texts.{Table}
+use Rattle.jo_value.specs.Texts.{Table, text_in}
 use Rattle.jo_model.specs.declared.call.Outcome.TheVariants.{OutputFull}
-use Rattle.jo_model.specs.Printed.{text_in, joined}
+use Rattle.jo_model.specs.Printed.{joined}
 use Rattle.jo_meaning.specs.State.{Next, ends}
 
 -- the line of an object's names

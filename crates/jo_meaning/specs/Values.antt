@@ -5,7 +5,7 @@ use Rattle.jo_value.specs.declared.limits.TheConstants.{MOST_NUMBER}
 use Rattle.jo_value.specs.declared.value.ObjId.{ObjId}
 use Rattle.jo_value.specs.declared.value.Value.{Value}
 use Rattle.jo_value.specs.declared.value.Value.TheVariants as value
-use Rattle.jo_value.specs.Texts.{Table}
+use Rattle.jo_value.specs.Texts.{Table, text_in}
 use Rattle.jo_value.specs.Values.{is_strictly_equal}
 use Rattle.jo_tree.specs.declared.operator.BinaryOperator.{BinaryOperator}
 use Rattle.jo_tree.specs.declared.operator.BinaryOperator.TheVariants as binary
@@ -13,7 +13,6 @@ use Rattle.jo_tree.specs.declared.operator.UnaryOperator.{UnaryOperator}
 use Rattle.jo_tree.specs.declared.operator.UnaryOperator.TheVariants as unary
 use Rattle.jo_model.specs.declared.call.Outcome.{Outcome}
 use Rattle.jo_model.specs.declared.call.Outcome.TheVariants.{TypeFault, NotSafe}
-use Rattle.jo_model.specs.Printed.{text_in}
 
 -- ---- truth
 

@@ -1,14 +1,10 @@
 -- The texts of values in printed lines.
-use Rattle.std.specs.Prelude.{ℕ, List, [], ◌∷◌, ◌++◌, codes, decimal, map, flat_map, slice_get, true, false, unwrap_or}
+use Rattle.std.specs.Prelude.{ℕ, List, [], ◌∷◌, ◌++◌, codes, decimal, map, flat_map, true, false}
 use Rattle.std.specs.Fmt.{signed_decimal}
-use Rattle.jo_value.specs.Texts.{Table}
+use Rattle.jo_value.specs.Texts.{Table, text_in}
 use Rattle.jo_value.specs.declared.value.ObjId.{ObjId}
 use Rattle.jo_value.specs.declared.value.Value.{Value}
 use Rattle.jo_value.specs.declared.value.Value.TheVariants.{Undefined, Null, Bool, Int, Text, Object}
-
--- the bytes of the text with a number; the empty text where the table lacks it
-abbrev pub text_in : Table → ℕ → List ℕ
-text_in texts id = unwrap_or (slice_get texts id) []
 
 abbrev pub object_text : ObjId → List ℕ
 object_text o = codes "#" ++ decimal o.pass ++ codes "." ++ decimal o.serial

@@ -1,7 +1,7 @@
 -- The output text of a run: what a script printed, how it ended, and the objects at the end.
 use Rattle.std.specs.Prelude.{ℕ, ◌==◌, ◌||◌, Bool, true, false, List, [], ◌∷◌, ◌++◌, codes, decimal, map, flat_map, if◌then◌else◌}
 use Rattle.std.specs.List.{enumerate_from}
-use Rattle.jo_value.specs.Texts.{Table}
+use Rattle.jo_value.specs.Texts.{Table, text_in}
 use Rattle.jo_value.specs.declared.value.NameId.{NameId}
 use Rattle.jo_value.specs.declared.value.Value.{Value}
 use Rattle.jo_value.specs.declared.value.Value.TheVariants as value
@@ -9,7 +9,7 @@ use Rattle.jo_model.specs.declared.call.Outcome.{Outcome}
 use Rattle.jo_model.specs.declared.call.Outcome.TheVariants as outcome
 use Rattle.jo_model.specs.Objects.{Object}
 use Rattle.jo_model.specs.Heaps.{Heap}
-use Rattle.jo_model.specs.Printed.{text_in, object_text, value_text, joined}
+use Rattle.jo_model.specs.Printed.{object_text, value_text, joined}
 
 -- the word for an outcome
 abbrev pub outcome_text : Outcome → List ℕ

@@ -5,13 +5,13 @@ use Rattle.std.specs.List.{take_while}
 use Rattle.std.specs.Str.{encode_utf8_all}
 use Rattle.std.specs.Prelude.{if◌then◌else◌, unwrap_or, nat_le, pos, ◌-◌}
 use Rattle.jo_value.specs.declared.limits.TheConstants.{MOST_NUMBER, MOST_TEXT_BYTES}
-use Rattle.jo_value.specs.Texts.{Table}
+use Rattle.jo_value.specs.Texts.{Table, is_digit}
 use Rattle.jo_lex.specs.declared.token.TokenKind.{TokenKind}
 use Rattle.jo_lex.specs.declared.refusal.Refusal.{Refusal}
 use Rattle.jo_lex.specs.declared.refusal.RefusalKind.{RefusalKind}
 use Rattle.jo_lex.specs.declared.refusal.RefusalKind.TheVariants as kind
 use Rattle.jo_lex.specs.declared.punct.Punct.{Punct}
-use Rattle.jo_lex.specs.Characters.{Characters, begins_with, is_spoiler, is_word_start, is_word_part, is_digit, is_blank, drop_while}
+use Rattle.jo_lex.specs.Characters.{Characters, begins_with, is_spoiler, is_word_start, is_word_part, is_blank, drop_while}
 use Rattle.jo_lex.specs.Punctuators.{Entry, punctuator_of}
 use Rattle.jo_lex.specs.Pieces.{Lexeme, word, number, text, Piece, gap, lexeme, fault, after_close, closed, comment, limited, word_piece, quoted, text_piece, judged, decimal, number_piece, accepted, punctuator_piece, token_piece, piece}
 use Rattle.jo_lex.specs.Tokens.{Progress, Advance, ended, refused, onward, with_token, taken, next_of, last, token_kind}

@@ -11,26 +11,16 @@ use std::alloc::{AllocError, Global};
 // The name that is no key of an object literal. Variables may have it.
 const PROTO: &str = "__proto__";
 
-fn text(texts: &Texts, id: TextId) -> &[u8]
-    ensures { result.now ≡ spec.text_at texts.now id }
-{
-    if id.0 < texts.len() {
-        texts.bytes(id)
-    } else {
-        &[]
-    }
-}
-
 fn is_proto(texts: &Texts, id: TextId) -> bool
     ensures { result ≡ spec.is_proto texts.now id }
 {
-    text(texts, id) == PROTO.as_bytes()
+    texts.bytes(id) == PROTO.as_bytes()
 }
 
 fn reserved(texts: &Texts, id: TextId) -> Terminal
     ensures { result ≡ spec.reserved texts.now id }
 {
-    match Keyword::of(text(texts, id)) {
+    match Keyword::of(texts.bytes(id)) {
         Some(keyword) => Terminal::Keyword(keyword),
         None => Terminal::Reserved(id),
     }

@@ -4,7 +4,7 @@ ghost use Rattle.jo_model.specs.Rendered.{property_value_text, element_text, nam
 ghost use Rattle.jo_render.specs.Fragments.{each_after, properties_text};
 
 use crate::quoted::add_quoted;
-use crate::value::{add_value, bytes_of};
+use crate::value::add_value;
 use jo_model::PlainObject;
 use jo_value::{NameId, TextId, Texts, Value};
 use std::alloc::{AllocError, Global};
@@ -94,7 +94,7 @@ fn add_name(
 ) -> Result<(), AllocError>
     ensures { OnOk result (output.new.items ≡ output.old.items ++ name_text texts.now name.now) }
 {
-    add_quoted(output, bytes_of(texts, TextId(name.0.0)))?;
+    add_quoted(output, texts.bytes(TextId(name.0.0)))?;
     output.extend_from_slice(b": ")?;
     add_property_value(alloc, output, texts, name.1)?;
     Ok(())
@@ -110,7 +110,7 @@ fn add_property_value(
     ensures { OnOk result (output.new.items ≡ output.old.items ++ property_value_text texts.now value) }
 {
     match value {
-        Value::Text(id) => add_quoted(output, bytes_of(texts, id)),
+        Value::Text(id) => add_quoted(output, texts.bytes(id)),
         _ => add_value(alloc, output, texts, value),
     }
 }

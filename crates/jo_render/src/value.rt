@@ -1,9 +1,9 @@
 // The text of values in a line. Each call puts it at the end of a text.
 ghost use Rattle.std.specs.Prelude.{◌≡◌, ◌++◌, OnOk, codes, map};
-ghost use Rattle.jo_model.specs.Printed.{text_in, object_text, value_text, line_of};
+ghost use Rattle.jo_model.specs.Printed.{object_text, value_text, line_of};
 ghost use Rattle.jo_render.specs.Fragments.{each_after};
 
-use jo_value::{ObjId, TextId, Texts, Value};
+use jo_value::{ObjId, Texts, Value};
 use std::alloc::{AllocError, Global};
 
 /// Puts the text of a value at the end. A text that the table lacks is empty.
@@ -23,7 +23,7 @@ pub fn add_value(
         Value::Bool(true) => output.extend_from_slice(b"true"),
         Value::Bool(false) => output.extend_from_slice(b"false"),
         Value::Int(number) => output.extend_from_slice(number.to_string(alloc)?.as_bytes()),
-        Value::Text(id) => output.extend_from_slice(bytes_of(texts, id)),
+        Value::Text(id) => output.extend_from_slice(texts.bytes(id)),
         Value::Object(object) => add_object_name(alloc, output, object),
     }
 }
@@ -35,17 +35,6 @@ fn add_object_name(alloc: Global, output: &mut Vec<u8>, object: ObjId) -> Result
     let name = format!(in alloc; "#{}.{}", object.pass, object.serial)?;
     output.extend_from_slice(name.as_bytes())?;
     Ok(())
-}
-
-/// The bytes of the text with a number; none where the table lacks it.
-pub(crate) fn bytes_of(texts: &Texts, id: TextId) -> &[u8]
-    ensures { result.now ≡ text_in texts.now id.0 }
-{
-    if id.0 < texts.len() {
-        texts.bytes(id)
-    } else {
-        b""
-    }
 }
 
 /// Puts the line that values print at the end, without its end.

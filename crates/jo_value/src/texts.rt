@@ -49,7 +49,7 @@ impl Model for Texts {
 }
 
 impl Texts {
-    ghost use Rattle.jo_value.specs.Texts.{interned, id_in};
+    ghost use Rattle.jo_value.specs.Texts.{interned, id_in, text_in};
 
     /// An empty table. It takes no memory until a text is interned.
     pub fn new(alloc: Global) -> Texts
@@ -115,12 +115,14 @@ impl Texts {
         Ok(())
     }
 
-    /// The bytes of the text with this number.
+    /// The bytes of the text with this id; none where the table lacks it.
     pub fn bytes(&self, id: TextId) -> &[u8]
-        requires { id.0 < length self.now }
-        ensures { slice_get self.now id.0 ≡ Some result.now }
+        ensures { result.now ≡ text_in self.now id.0 }
     {
-        self.texts.as_slice()[usize::from(id.0)].as_bytes()
+        match self.texts.as_slice().get(usize::from(id.0)) {
+            Some(text) => text.as_bytes(),
+            None => b"",
+        }
     }
 
     /// How many texts the table has.

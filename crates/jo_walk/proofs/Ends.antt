@@ -2,7 +2,7 @@
 use Rattle.std.proofs.Common.{◌≡◌, ℕ, ◌+◌, ℤ, List, [], ◌∷◌, ◌++◌, Bool, true, false, not, Option, Some, None, refl, sym, ap, ◌∙◌, length, subst, true≢false}
 use Rattle.std.specs.Prelude.{if◌then◌else◌, nat_le, slice_get, unwrap_or, Ok, ◌&&◌, ◌==◌}
 use Rattle.std.proofs.lemmas.Option.{none-some, cond_some}
-use Rattle.jo_value.specs.Texts.{Table}
+use Rattle.jo_value.specs.Texts.{Table, text_in, is_digit}
 use Rattle.jo_value.specs.declared.limits.TheConstants.{MOST_LINE_BYTES}
 use Rattle.jo_value.specs.declared.value.NameId.{NameId}
 use Rattle.jo_value.specs.declared.value.Key.TheVariants.{Name}
@@ -19,7 +19,7 @@ use Rattle.jo_model.specs.declared.call.Reply.{Reply}
 use Rattle.jo_model.specs.declared.call.Reply.TheVariants as reply
 use Rattle.jo_model.specs.Heaps.{Heap, shared, heap_at_start}
 use Rattle.jo_model.specs.One.{one}
-use Rattle.jo_model.specs.Printed.{text_in, line_of}
+use Rattle.jo_model.specs.Printed.{line_of}
 use Rattle.jo_meaning.specs.Runs.{Interaction}
 use Rattle.jo_meaning.specs.Play.{play}
 use Rattle.jo_meaning.specs.State.{State, Next, Environment, unless_refused, unless_fault, asks, found_in, ends}
@@ -28,7 +28,7 @@ use Rattle.jo_meaning.specs.Expressions.{evaluates, evaluates_each}
 use Rattle.jo_meaning.specs.Statements.{executes, executes_all}
 use Rattle.jo_meaning.specs.Scripts.{interaction_of, state_at_start}
 use Rattle.jo_meaning.specs.Histories.{IsHistoryOf, played_alone}
-use Rattle.jo_meaning.specs.Keys.{is_digit, numeral, key_by, key_of_text, name_id}
+use Rattle.jo_meaning.specs.Keys.{numeral, key_by, key_of_text, name_id}
 use Rattle.jo_meaning.specs.Values.{is_empty}
 use Rattle.jo_meaning.proofs.Alone.{history_of_script, heap_alone, lines_alone, entries_of-play}
 use Rattle.jo_form.specs.Forms.{number_in, with_front, is_word, shared_name, shared_names, put_of, print_of, step_of, steps_of, has_few_names, unless_many, form_of}

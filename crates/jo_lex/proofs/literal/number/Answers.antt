@@ -2,7 +2,7 @@ use Rattle.std.proofs.Common.{◌≡◌, ◌≢◌, ◌+◌, ◌-◌, min, refl,
 use Rattle.std.specs.List.{take_while}
 use Rattle.std.specs.Str.{chars}
 use Rattle.jo_value.specs.declared.limits.TheConstants.{MOST_NUMBER}
-use Rattle.jo_lex.specs.Characters.{is_digit}
+use Rattle.jo_value.specs.Texts.{is_digit}
 use Rattle.jo_lex.specs.Pieces.{decimal}
 use Rattle.jo_lex.proofs.Texts.{chars_pass}
 use Rattle.jo_lex.proofs.Literals.{number_piece-zero, number_piece-digits}

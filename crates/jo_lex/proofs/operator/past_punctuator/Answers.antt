@@ -2,7 +2,8 @@ use Rattle.std.proofs.Common.{◌≡◌, ◌++◌, ◌&&◌, true, false, sym, a
 use Rattle.std.proofs.lemmas.Grind.{common_steps}
 use Rattle.std.specs.Prelude.{codes}
 use Rattle.std.specs.Str.{bytes_eq, chars}
-use Rattle.jo_lex.specs.Characters.{begins_with, is_digit}
+use Rattle.jo_lex.specs.Characters.{begins_with}
+use Rattle.jo_value.specs.Texts.{is_digit}
 use Rattle.jo_lex.proofs.Punctuation.{starts-yes, drop-front, fits-front, fits-nowhere}
 use Rattle.jo_lex.proofs.operator.past_punctuator.Goals as goal
 
@@ -25,4 +26,4 @@ returns-in-Some-2 c =
     (fits-front p (chars c.args.input.now) (chars rest) false split barred, sym (drop-front p (chars c.args.input.now) (chars rest) split), omega arith)
 
 pub returns-in-None : goal.returns-in-None
-returns-in-None c = fits-nowhere c.args.punctuator.now c.args.input.now c.requires c.utf8.text c.in-None.ensures.cases
+returns-in-None c = fits-nowhere c.args.punctuator.now c.args.input.now c.requires c.utf8.input c.in-None.ensures.cases

@@ -30,7 +30,7 @@ pub returns-in_err-rest-clause-err : goal.returns-in_err-rest-clause-err
 returns-in_err-rest-clause-err c =
     let s = start c.args.base c.args.texts.now (chars c.args.input.now) in
     let n = c.loop-first.invariant.1.0 in
-    let whole : size s.rest ≡ length c.args.input.now = size-chars c.args.input.now c.utf8.text in
+    let whole : size s.rest ≡ length c.args.input.now = size-chars c.args.input.now c.utf8.input in
     let le : n ≤ size s.rest = omega arith in
     let failed = fails n s (at (c.args.base + (length c.args.input.now - length c.loop-first.rest.now)) c.loop-first.rest.now c.loop-first.tokens.items c.loop-first.texts) c.in_err-rest.field-0.0 c.advance.new.texts le c.loop-first.invariant.1.1 c.in_err-rest.ensures.err (search rules) in
     search rules
@@ -39,7 +39,7 @@ pub returns-clause-ok : goal.returns-clause-ok
 returns-clause-ok c =
     let s = start c.args.base c.args.texts.now (chars c.args.input.now) in
     let n = c.loop-first.invariant.1.0 in
-    let whole : size s.rest ≡ length c.args.input.now = size-chars c.args.input.now c.utf8.text in
+    let whole : size s.rest ≡ length c.args.input.now = size-chars c.args.input.now c.utf8.input in
     let le : n ≤ size s.rest = omega arith in
     let rest = c.loop-first.rest.now in
     let short : length rest ≡ 0 = search rules in
