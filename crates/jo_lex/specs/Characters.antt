@@ -1,6 +1,7 @@
 -- The characters of a script (ECMA-262, Source Text, White Space, Line Terminators and Names).
 use Rattle.std.specs.Prelude.{ℕ, Bool, false, not, ◌&&◌, ◌||◌, ◌==◌, nat_le, List, [], ◌∷◌, length, if◌then◌else◌}
 use Rattle.std.specs.Str.{encode_utf8_all}
+use Rattle.jo_value.specs.Texts.{is_digit}
 use Rattle.unicode_ident.specs.Ident.{is_xid_start, is_xid_continue}
 
 -- a script, or what is left of it, as its characters

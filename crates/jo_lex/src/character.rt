@@ -2,6 +2,7 @@
 ghost use Rattle.std.specs.Prelude.{◌≡◌, ◌<◌, ◌≤◌, [], ◌∷◌, ◌++◌, length, encode_utf8, MatchOption};
 ghost use Rattle.std.specs.List.{take_while};
 ghost use Rattle.std.specs.Str.{chars, encode_utf8_all};
+ghost use Rattle.jo_value.specs.Texts.{is_digit};
 ghost use Rattle.jo_lex.specs.Characters as spec;
 ghost use Rattle.jo_lex.specs.Classes.{test_of, EndsWith};
 
@@ -53,7 +54,7 @@ fn is_joiner(c: char) -> bool
 }
 
 fn is_digit(c: char) -> bool
-    ensures { result ≡ spec.is_digit c }
+    ensures { result ≡ is_digit c }
 {
     c >= '0' && c <= '9'
 }
