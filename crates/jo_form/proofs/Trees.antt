@@ -27,7 +27,7 @@ use Rattle.jo_tree.specs.Trees.{evaluate}
 use Rattle.jo_tree.specs.Views.{expr_tree, cond_tree, chain_tree, unary_tree, postfix_tree, primary_tree, accesses_list}
 use Rattle.jo_tree.proofs.Shapes.{shapes}
 use Rattle.jo_tree.proofs.ScriptShapes.{script_shapes}
-use Rattle.jo_form.specs.Parts.{is_operand, is_shared, only_word}
+use Rattle.jo_form.specs.inner.Parts.{is_operand, is_shared, only_word}
 use Rattle.jo_form.specs.Forms.{number_in, shared_name, step_of}
 
 -- ---- primary expressions

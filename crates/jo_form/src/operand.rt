@@ -2,7 +2,7 @@
 ghost use Rattle.std.specs.Prelude.{◌≡◌, false, IfSome, IfNone, ◌∷◌, []};
 ghost use Rattle.jo_tree.specs.Views.{accesses_list, accesses_with, chain_tree, cond_tree, expr_tree, member_tree, postfix_tree, primary_tree, target_tree, unary_tree};
 ghost use Rattle.jo_form.specs.Forms as spec;
-ghost use Rattle.jo_form.specs.Parts as parts;
+ghost use Rattle.jo_form.specs.inner.Parts as parts;
 
 use crate::word::name_of;
 use jo_tree::{Access, Chain, Cond, Expr, Member, Name, Postfix, Primary, Target, Unary};

@@ -7,7 +7,7 @@ use Rattle.jo_tree.specs.Trees.{Tree, number, literal, constant, variable, group
 use Rattle.jo_grammar.specs.Operators.{assign_token}
 use Rattle.jo_grammar.specs.Expressions.{Mark, IsTarget, Fits, spelling}
 use Rattle.jo_grammar.specs.Refusals.{Language, terms}
-use Rattle.jo_grammar.specs.Read.{and_then, open_at, peek, next, rank, assign_of, Below, condition, is_target, assignment}
+use Rattle.jo_grammar.specs.inner.Read.{and_then, open_at, peek, next, rank, assign_of, Below, condition, is_target, assignment}
 use Rattle.jo_grammar.proofs.Outcome.{Outcome, bind, outcome-bind, outcome-choose, Any, nothing, outcome-pure, one, outcome-same, mapped, outcome-if, join, first-of, opened-after}
 use Rattle.jo_grammar.proofs.Levels.{at, Above, ReadsAt, some_tree, nil-right, rank-cons, links-level, Fits-lower, outcome-inner}
 use Rattle.jo_grammar.proofs.Tokens.{assign-token-of, assign-of-token, rank-of-assign}

@@ -11,7 +11,7 @@ use Rattle.jo_tree.specs.Trees.{Tree, group, object, cas, Props, no_props, prop}
 use Rattle.jo_grammar.specs.Operators.{key_token}
 use Rattle.jo_grammar.specs.Expressions.{Mark, plain, mark, Fits, FitProps, FitMore, comma_at_end, spelling, props, more_props}
 use Rattle.jo_grammar.specs.Refusals.{Language, terms}
-use Rattle.jo_grammar.specs.Read.{Reader, and_then, peek, next, sees, expect, key, punct_rank, rank, with_prop, Below, ended, property, props_from, object_after, group_after, cas_after}
+use Rattle.jo_grammar.specs.inner.Read.{Reader, and_then, peek, next, sees, expect, key, punct_rank, rank, with_prop, Below, ended, property, props_from, object_after, group_after, cas_after}
 use Rattle.jo_grammar.proofs.Outcome.{Outcome, bind, outcome-bind, Any, nothing, outcome-pure, one, outcome-fail, outcome-same, mapped, outcome-map, outcome-if, join, sees-cons, sees-false, first-of, some-after, outcome-sees, outcome-expect, IsKey, a_key, outcome-key, plain-after}
 use Rattle.jo_grammar.proofs.Levels.{at, Above, ReadsAt, some_tree, not-longer, closed_by, outcome-closed, outcome-inner}
 

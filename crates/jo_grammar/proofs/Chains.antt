@@ -7,7 +7,7 @@ use Rattle.jo_tree.specs.Trees.{Tree, number, literal, constant, variable, group
 use Rattle.jo_grammar.specs.Operators.{binary_token}
 use Rattle.jo_grammar.specs.Expressions.{Mark, Fits, FitLinks, spelling, links}
 use Rattle.jo_grammar.specs.Refusals.{Language, terms}
-use Rattle.jo_grammar.specs.Read.{peek, next, rank, binary_of, with_link, Below, prefixed, links_from, chain_of, chains}
+use Rattle.jo_grammar.specs.inner.Read.{peek, next, rank, binary_of, with_link, Below, prefixed, links_from, chain_of, chains}
 use Rattle.jo_grammar.proofs.Outcome.{Outcome, bind, outcome-bind, outcome-choose, Any, nothing, outcome-pure, one, outcome-same, mapped, outcome-map, outcome-if, join, opened-after}
 use Rattle.jo_grammar.proofs.Levels.{at, Above, ReadsAt, outcome-below, some_tree, nil-right, not-longer, rank-cons, Fits-lower}
 use Rattle.jo_grammar.proofs.Operands.{outcome-prefixed}

@@ -6,7 +6,7 @@ use Rattle.jo_grammar.specs.declared.terminal.Terminal.TheVariants as t
 use Rattle.jo_tree.specs.Trees.{Tree, number, literal, constant, variable, group, object, cas, member, unary, delete, chain, choose, assign}
 use Rattle.jo_grammar.specs.Expressions.{Mark, mark, IsTarget, Fits, spelling}
 use Rattle.jo_grammar.specs.Refusals.{Language, terms}
-use Rattle.jo_grammar.specs.Read.{and_then, open_at, peek, next, sees, rank, Below, chains, choice, condition}
+use Rattle.jo_grammar.specs.inner.Read.{and_then, open_at, peek, next, sees, rank, Below, chains, choice, condition}
 use Rattle.jo_grammar.proofs.Outcome.{Stops, Outcome, bind, outcome-bind, outcome-choose, Any, nothing, outcome-pure, one, outcome-same, mapped, join, first-of, some-after, outcome-sees, opened-after}
 use Rattle.jo_grammar.proofs.Levels.{at, Above, ReadsAt, some_tree, nil-right, links-level, Fits-lower, closed_by, outcome-closed, outcome-inner}
 use Rattle.jo_grammar.proofs.Chains.{outcome-chains}

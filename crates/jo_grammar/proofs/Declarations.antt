@@ -8,8 +8,8 @@ use Rattle.jo_tree.specs.Trees.{Tree, Binding}
 use Rattle.jo_grammar.specs.Expressions.{Mark, mark, plain, spelling}
 use Rattle.jo_grammar.specs.Statements.{FitOptional, FitBindings, initial, binding, more_bindings, bindings}
 use Rattle.jo_grammar.specs.Refusals.{Language, terms}
-use Rattle.jo_grammar.specs.Read.{peek, next, rank, read}
-use Rattle.jo_grammar.specs.ReadStatements.{ident_of, ident, initial_at, binding_at, bindings_from, let_after}
+use Rattle.jo_grammar.specs.inner.Read.{peek, next, rank, read}
+use Rattle.jo_grammar.specs.inner.ReadStatements.{ident_of, ident, initial_at, binding_at, bindings_from, let_after}
 use Rattle.jo_grammar.proofs.Outcome.{Outcome, bind, outcome-bind, Any, nothing, outcome-pure, one, outcome-same, mapped, outcome-map, join, outcome-sees, opened-with, a_token, outcome-take}
 use Rattle.jo_grammar.proofs.Levels.{at, Above, some_tree, outcome-inner}
 use Rattle.jo_grammar.proofs.Exact.{outcome-read}

@@ -2,7 +2,7 @@
 use Rattle.std.proofs.Common.{◌≡◌, ◌==◌, eqb, inl, inr, Bool, true, false, if◌then◌else◌, zero, suc, ℕ, ◌+◌, ◌-◌, ◌≤◌, ◌<◌, List, sym, subst, refl, arith}
 use Rattle.std.proofs.lemmas.Bool.{eqb-true, eq-eqb}
 use Rattle.jo_grammar.specs.declared.terminal.Terminal.{Terminal}
-use Rattle.jo_grammar.specs.Read.{Below, only_member, assignment, chains, at_level, no_room, read}
+use Rattle.jo_grammar.specs.inner.Read.{Below, only_member, assignment, chains, at_level, no_room, read}
 use Rattle.jo_grammar.proofs.Outcome.{Any, Outcome}
 use Rattle.jo_grammar.proofs.Levels.{level_language, Above, IsLevel, ReadsAt, at-outcome}
 use Rattle.jo_grammar.proofs.Operands.{outcome-only_member}

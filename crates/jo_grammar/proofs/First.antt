@@ -11,7 +11,7 @@ use Rattle.jo_grammar.specs.Operators.{is_constant}
 use Rattle.jo_grammar.specs.Expressions.{Mark, mark, Fits, spelling, first}
 use Rattle.jo_grammar.specs.Statements.{FitStatement, statement}
 use Rattle.jo_grammar.specs.Refusals.{Language, terms}
-use Rattle.jo_grammar.specs.Read.{peek}
+use Rattle.jo_grammar.specs.inner.Read.{peek}
 use Rattle.jo_grammar.proofs.Outcome.{terms-split}
 use Rattle.jo_grammar.proofs.Levels.{at, first-is, first-at}
 

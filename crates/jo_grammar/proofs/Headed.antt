@@ -3,7 +3,7 @@ use Rattle.std.proofs.Common.{◌≡◌, ℕ, List, [], ◌∷◌, ◌++◌, Ok,
 use Rattle.jo_grammar.specs.declared.terminal.Terminal.{Terminal}
 use Rattle.jo_grammar.specs.Expressions.{Mark}
 use Rattle.jo_grammar.specs.Refusals.{Language, terms, Within, unexpected, too_deep}
-use Rattle.jo_grammar.specs.Read.{Reading, peek}
+use Rattle.jo_grammar.specs.inner.Read.{Reading, peek}
 use Rattle.jo_grammar.proofs.Outcome.{Stops, Stuck, Outcome}
 
 -- what the first language spells from this token on is in the second, and there is nothing else in the second

@@ -8,8 +8,8 @@ use Rattle.jo_tree.specs.Trees.{Statement, Items, no_items, declare, perform}
 use Rattle.jo_grammar.specs.Expressions.{Mark, mark, word}
 use Rattle.jo_grammar.specs.Statements.{FitBindings, IsClosed, FitStatement, FitItems, bindings, declaration, statement, items}
 use Rattle.jo_grammar.specs.Refusals.{Language, terms}
-use Rattle.jo_grammar.specs.Read.{Reader, peek, next}
-use Rattle.jo_grammar.specs.ReadStatements.{Item, a_declaration, a_statement, with_item, item_at, block_from}
+use Rattle.jo_grammar.specs.inner.Read.{Reader, peek, next}
+use Rattle.jo_grammar.specs.inner.ReadStatements.{Item, a_declaration, a_statement, with_item, item_at, block_from}
 use Rattle.jo_grammar.proofs.Outcome.{Stops, Outcome, bind, outcome-bind, Any, nothing, outcome-pure, one, outcome-fail, mapped, outcome-map, join, terms-split, outcome-sees, plain-after}
 use Rattle.jo_grammar.proofs.First.{begins_statement, statement-begins, statement_language, not-statement}
 use Rattle.jo_grammar.proofs.Declarations.{a_let, some_let, outcome-let}

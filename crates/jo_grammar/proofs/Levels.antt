@@ -12,7 +12,7 @@ use Rattle.jo_tree.specs.Trees.{Tree, number, literal, constant, variable, group
 use Rattle.jo_grammar.specs.Operators.{level_of}
 use Rattle.jo_grammar.specs.Expressions.{Mark, word, IsMember, Fits, FitLinks, spelling, accesses, links, first}
 use Rattle.jo_grammar.specs.Refusals.{Language, terms}
-use Rattle.jo_grammar.specs.Read.{Reading, Reader, and_then, peek, next, code, expect, punct_rank, rank, Below}
+use Rattle.jo_grammar.specs.inner.Read.{Reading, Reader, and_then, peek, next, code, expect, punct_rank, rank, Below}
 use Rattle.jo_grammar.proofs.Outcome.{Stops, Outcome, bind, outcome-bind, outcome-choose, outcome-same, Any, one, outcome-expect, mapped, outcome-map, first-of, some-after, terms-split}
 
 -- ---- the languages

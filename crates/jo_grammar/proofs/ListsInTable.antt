@@ -30,10 +30,10 @@ lists-good most texts [] (tokens ∷ lists) end s h = absurd h
 lists-good most texts (section ∷ sections) [] end s h = absurd h
 lists-good most texts (section ∷ sections) (tokens ∷ lists) end s h =
     let after = h.0 in
-    let one = read-good section.start texts (chars section.text) tokens after h.1 in
+    let one = read-good section.start texts (chars section.input) tokens after h.1 in
     let others = lists-good most after sections lists end s.2 h.2 in
-    let short : size (chars section.text) ≤ most = omega (arith, size-chars section.text s.0, s.1) in
-    ((list-wider after end (size (chars section.text)) most tokens others.1 short one.0, others.0), extends-further texts after end one.1 others.1)
+    let short : size (chars section.input) ≤ most = omega (arith, size-chars section.input s.0, s.1) in
+    ((list-wider after end (size (chars section.input)) most tokens others.1 short one.0, others.0), extends-further texts after end one.1 others.1)
 
 -- as many as the sections
 pub lists-many : (texts : Table) (sections : List Section) (lists : List (List Token)) (end : Table) → AreRead texts sections lists end → length lists ≡ length sections

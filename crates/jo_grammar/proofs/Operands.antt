@@ -13,7 +13,7 @@ use Rattle.jo_tree.specs.Trees.{Tree, number, literal, constant, variable, group
 use Rattle.jo_grammar.specs.Operators.{unary_token, name_token, is_constant}
 use Rattle.jo_grammar.specs.Expressions.{Mark, plain, mark, word, IsMember, Fits, FitAccesses, comma_at_end, spelling, props, accesses, first}
 use Rattle.jo_grammar.specs.Refusals.{Language, terms, unexpected, too_deep}
-use Rattle.jo_grammar.specs.Read.{Reading, Reader, and_then, peek, next, code, sees, open_at, name, rank, is_sign, sign_of, with_field, with_index, Below, cas_after, keyword_at, bracket_at, primary_at, primary, index_at, accesses_from, member_of, postfix, is_member, only_member, prefixed}
+use Rattle.jo_grammar.specs.inner.Read.{Reading, Reader, and_then, peek, next, code, sees, open_at, name, rank, is_sign, sign_of, with_field, with_index, Below, cas_after, keyword_at, bracket_at, primary_at, primary, index_at, accesses_from, member_of, postfix, is_member, only_member, prefixed}
 use Rattle.jo_grammar.proofs.Outcome.{Stops, Whole, Outcome, bind, outcome-bind, outcome-choose, Any, nothing, outcome-pure, one, outcome-fail, outcome-branch, outcome-same, mapped, outcome-map, outcome-if, join, peek-cons, first-of, some-after, outcome-sees, opened-after, plain-after, outcome-enter, a_name, some_name, outcome-name}
 use Rattle.jo_grammar.proofs.Levels.{at, level_language, Above, ReadsAt, some_tree, outcome-below, outcome-weaken, nil-right, not-longer, bind-shorter, rank-small, rank-flag, links-level, Fits-lower, Fits-flag, at-lower, first-at}
 use Rattle.jo_grammar.proofs.Bracketed.{an_ended, some_ended, a_group, some_group, a_cas, some_cas, an_object, some_object, outcome-ended, outcome-group, outcome-cas, outcome-object}

@@ -14,7 +14,7 @@ use Rattle.jo_tree.specs.declared.word.PropKey.TheVariants as q
 use Rattle.jo_grammar.specs.Operators.{name_token, key_token, reads_proto}
 use Rattle.jo_grammar.specs.Expressions.{Mark, plain}
 use Rattle.jo_grammar.specs.Refusals.{Language, terms, Within, Fault, unexpected, too_deep}
-use Rattle.jo_grammar.specs.Read.{Reading, and_then, peek, next, code, sees, expect, open_at, enter, take, name_of, name, key_of, key}
+use Rattle.jo_grammar.specs.inner.Read.{Reading, and_then, peek, next, code, sees, expect, open_at, enter, take, name_of, name, key_of, key}
 
 -- ---- lists of tokens
 

@@ -9,8 +9,8 @@ use Rattle.jo_tree.specs.Trees.{Tree, Head, declares, begins}
 use Rattle.jo_grammar.specs.Expressions.{Mark, mark, word, Fits, spelling}
 use Rattle.jo_grammar.specs.Statements.{FitOptional, FitAll, FitHead, optional, bindings, head, more_arguments, arguments, bracketed}
 use Rattle.jo_grammar.specs.Refusals.{Language, terms}
-use Rattle.jo_grammar.specs.Read.{peek, next, punct_rank, rank, read}
-use Rattle.jo_grammar.specs.ReadStatements.{in_brackets_at, optional_ended, head_at, arguments_from, arguments_after}
+use Rattle.jo_grammar.specs.inner.Read.{peek, next, punct_rank, rank, read}
+use Rattle.jo_grammar.specs.inner.ReadStatements.{in_brackets_at, optional_ended, head_at, arguments_from, arguments_after}
 use Rattle.jo_grammar.proofs.Outcome.{Outcome, bind, Any, nothing, outcome-pure, one, outcome-same, mapped, outcome-map, join, terms-split, outcome-sees, plain-after, outcome-enter}
 use Rattle.jo_grammar.proofs.Levels.{at, Above, some_tree, outcome-below, closed_by, outcome-closed}
 use Rattle.jo_grammar.proofs.Exact.{outcome-read}

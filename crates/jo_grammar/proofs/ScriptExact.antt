@@ -7,8 +7,8 @@ use Rattle.jo_tree.specs.Trees.{Items, no_items}
 use Rattle.jo_grammar.specs.Expressions.{Mark}
 use Rattle.jo_grammar.specs.Statements.{FitItems, items, IsScript}
 use Rattle.jo_grammar.specs.Refusals.{Language, terms, Within, IsAccepted, Fault, IsRefused}
-use Rattle.jo_grammar.specs.Read.{Reading, peek}
-use Rattle.jo_grammar.specs.ReadStatements.{Item, with_item, item_at, read_statement, Answer, item_then, script_from, whole_script}
+use Rattle.jo_grammar.specs.inner.Read.{Reading, peek}
+use Rattle.jo_grammar.specs.inner.ReadStatements.{Item, with_item, item_at, read_statement, Answer, item_then, script_from, whole_script}
 use Rattle.jo_grammar.proofs.Outcome.{Outcome}
 use Rattle.jo_grammar.proofs.Levels.{nil-right}
 use Rattle.jo_grammar.proofs.Accepted.{list-end, Answers}

@@ -1,4 +1,4 @@
--- The sections of a text: each is a text, and none is longer than the whole.
+-- The sections of a input: each is a input, and none is longer than the whole.
 use Rattle.std.proofs.Common.{◌≡◌, ℕ, ◌+◌, ◌≤◌, ◌==◌, Bool, true, false, List, [], ◌∷◌, ◌++◌, length, if◌then◌else◌, get_or, refl, sym, ap, subst, ◌∙◌, arith, append_assoc, append-nil, length-append, take_at, drop_at}
 use Rattle.std.proofs.Math.Seq.{get_or-append_seam}
 use Rattle.std.proofs.lemmas.Bool.{eqb-true}
@@ -13,14 +13,14 @@ with_first-join : (b : ℕ) (lines : List (List ℕ)) → concat (with_first b l
 with_first-join b [] = refl
 with_first-join b (line ∷ lines) = refl
 
-lines-join : (text : List ℕ) → concat (lines_of text) ≡ text
+lines-join : (input : List ℕ) → concat (lines_of input) ≡ input
 unfolding lines_of
 lines-join [] = refl
-lines-join (b ∷ text) = step (b == 10) (lines-join text)
+lines-join (b ∷ input) = step (b == 10) (lines-join input)
   where
-    step : (k : Bool) → concat (lines_of text) ≡ text → concat (if k then (b ∷ []) ∷ lines_of text else with_first b (lines_of text)) ≡ b ∷ text
+    step : (k : Bool) → concat (lines_of input) ≡ input → concat (if k then (b ∷ []) ∷ lines_of input else with_first b (lines_of input)) ≡ b ∷ input
     step true ih = ap (λ t. b ∷ t) ih
-    step false ih = with_first-join b (lines_of text) ∙ ap (λ t. b ∷ t) ih
+    step false ih = with_first-join b (lines_of input) ∙ ap (λ t. b ∷ t) ih
 
 -- a line before others ends in a line feed
 abbrev IsEnded : List ℕ → List (List ℕ) → Type 0
@@ -43,20 +43,20 @@ with_first-ended : (b : ℕ) (lines : List (List ℕ)) → AreEnded lines → Ar
 with_first-ended b [] h = (tt, tt)
 with_first-ended b (line ∷ lines) h = (ended-first b line lines h.0, h.1)
 
-lines-ended : (text : List ℕ) → AreEnded (lines_of text)
+lines-ended : (input : List ℕ) → AreEnded (lines_of input)
 unfolding lines_of
 lines-ended [] = tt
-lines-ended (b ∷ text) = step (b == 10) refl (lines-ended text)
+lines-ended (b ∷ input) = step (b == 10) refl (lines-ended input)
   where
-    step : (k : Bool) → (b == 10) ≡ k → AreEnded (lines_of text) → AreEnded (if k then (b ∷ []) ∷ lines_of text else with_first b (lines_of text))
-    step true e ih = (subst (λ c. IsEnded (c ∷ []) (lines_of text)) (sym (eqb-true b 10 e)) (ended-feed (lines_of text)), ih)
-    step false e ih = with_first-ended b (lines_of text) ih
+    step : (k : Bool) → (b == 10) ≡ k → AreEnded (lines_of input) → AreEnded (if k then (b ∷ []) ∷ lines_of input else with_first b (lines_of input))
+    step true e ih = (subst (λ c. IsEnded (c ∷ []) (lines_of input)) (sym (eqb-true b 10 e)) (ended-feed (lines_of input)), ih)
+    step false e ih = with_first-ended b (lines_of input) ih
 
 abbrev AreTexts : List (List ℕ) → Type 0
 AreTexts [] = Unit {0}
 AreTexts (line ∷ lines) = IsUtf8 line × AreTexts lines
 
--- after a line feed a text may be cut
+-- after a line feed a input may be cut
 cut-after : (front rest : List ℕ) → IsUtf8 ((front ++ 10 ∷ []) ++ rest) → IsUtf8 (front ++ 10 ∷ []) × IsUtf8 rest
 cut-after front rest u =
     let line = front ++ 10 ∷ [] in
@@ -66,9 +66,9 @@ cut-after front rest u =
     let boundary : IsCharBoundary (line ++ rest) (n + 1) = IsCharBoundary-after_ascii (line ++ rest) n u (omega (arith, size, length-append line rest)) (omega (arith, feed)) in
     (subst IsUtf8 (take_at line rest (n + 1) size) (IsUtf8-take (line ++ rest) (n + 1) u boundary), subst IsUtf8 (drop_at line rest (n + 1) size) (IsUtf8-drop (line ++ rest) (n + 1) u boundary))
 
-first-text : (line : List ℕ) (lines : List (List ℕ)) → IsEnded line lines → IsUtf8 (line ++ concat lines) → IsUtf8 line × IsUtf8 (concat lines)
-first-text line [] h u = (subst IsUtf8 (append-nil line) u, IsUtf8-nil)
-first-text line (next ∷ lines) h u =
+first-input : (line : List ℕ) (lines : List (List ℕ)) → IsEnded line lines → IsUtf8 (line ++ concat lines) → IsUtf8 line × IsUtf8 (concat lines)
+first-input line [] h u = (subst IsUtf8 (append-nil line) u, IsUtf8-nil)
+first-input line (next ∷ lines) h u =
     let rest = concat (next ∷ lines) in
     let parts = cut-after h.0 rest (subst (λ t. IsUtf8 (t ++ rest)) h.1 u) in
     (subst IsUtf8 (sym h.1) parts.0, parts.1)
@@ -76,27 +76,27 @@ first-text line (next ∷ lines) h u =
 lines-texts : (lines : List (List ℕ)) → AreEnded lines → IsUtf8 (concat lines) → AreTexts lines
 lines-texts [] h u = tt
 lines-texts (line ∷ lines) h u =
-    let parts = first-text line lines h.0 u in
+    let parts = first-input line lines h.0 u in
     (parts.0, lines-texts lines h.1 parts.1)
 
 -- ---- scripts
 
--- each section is a text of at most so many bytes
+-- each section is a input of at most so many bytes
 abbrev pub AreShort : ℕ → List Section → Type 0
 AreShort most [] = Unit {0}
-AreShort most (section ∷ sections) = IsUtf8 section.text × (length section.text ≤ most) × AreShort most sections
+AreShort most (section ∷ sections) = IsUtf8 section.input × (length section.input ≤ most) × AreShort most sections
 
-cut-short : (most start : ℕ) (text : List ℕ) (lines : List (List ℕ)) → IsUtf8 text → AreTexts lines → length text + length (concat lines) ≤ most → AreShort most (sections_from start text lines)
+cut-short : (most start : ℕ) (input : List ℕ) (lines : List (List ℕ)) → IsUtf8 input → AreTexts lines → length input + length (concat lines) ≤ most → AreShort most (sections_from start input lines)
 unfolding sections_from
-cut-short most start text [] u us le = (u, omega (arith, le), tt)
-cut-short most start text (line ∷ lines) u us le =
+cut-short most start input [] u us le = (u, omega (arith, le), tt)
+cut-short most start input (line ∷ lines) u us le =
     let whole = length-append line (concat lines) in
     step (is_separator line)
-    (cut-short most (start + length text + length line) [] lines IsUtf8-nil us.1 (omega (arith, le, whole)))
-    (cut-short most start (text ++ line) lines (IsUtf8-append text line u us.0) us.1 (omega (arith, le, whole, length-append text line)))
+    (cut-short most (start + length input + length line) [] lines IsUtf8-nil us.1 (omega (arith, le, whole)))
+    (cut-short most start (input ++ line) lines (IsUtf8-append input line u us.0) us.1 (omega (arith, le, whole, length-append input line)))
   where
-    step : (k : Bool) → AreShort most (sections_from (start + length text + length line) [] lines) → AreShort most (sections_from start (text ++ line) lines)
-        → AreShort most (if k then record { start = start; text = text } ∷ sections_from (start + length text + length line) [] lines else sections_from start (text ++ line) lines)
+    step : (k : Bool) → AreShort most (sections_from (start + length input + length line) [] lines) → AreShort most (sections_from start (input ++ line) lines)
+        → AreShort most (if k then record { start = start; input = input } ∷ sections_from (start + length input + length line) [] lines else sections_from start (input ++ line) lines)
     step true anew further = (u, omega (arith, le), anew)
     step false anew further = further
 
@@ -105,13 +105,13 @@ sections-short bytes u =
     let join = lines-join bytes in
     cut-short (length bytes) 0 [] (lines_of bytes) IsUtf8-nil (lines-texts (lines_of bytes) (lines-ended bytes) (subst IsUtf8 (sym join) u)) (omega (arith, ap length join))
 
-cut-some : (start : ℕ) (text : List ℕ) (lines : List (List ℕ)) → 1 ≤ length (sections_from start text lines)
+cut-some : (start : ℕ) (input : List ℕ) (lines : List (List ℕ)) → 1 ≤ length (sections_from start input lines)
 unfolding sections_from
-cut-some start text [] = omega arith
-cut-some start text (line ∷ lines) = step (is_separator line) (cut-some start (text ++ line) lines)
+cut-some start input [] = omega arith
+cut-some start input (line ∷ lines) = step (is_separator line) (cut-some start (input ++ line) lines)
   where
-    step : (k : Bool) → 1 ≤ length (sections_from start (text ++ line) lines)
-        → 1 ≤ length (if k then record { start = start; text = text } ∷ sections_from (start + length text + length line) [] lines else sections_from start (text ++ line) lines)
+    step : (k : Bool) → 1 ≤ length (sections_from start (input ++ line) lines)
+        → 1 ≤ length (if k then record { start = start; input = input } ∷ sections_from (start + length input + length line) [] lines else sections_from start (input ++ line) lines)
     step true further = omega arith
     step false further = further
 

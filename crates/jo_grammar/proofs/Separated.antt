@@ -5,7 +5,7 @@ use Rattle.jo_grammar.specs.declared.terminal.Terminal.{Terminal}
 use Rattle.jo_grammar.specs.declared.terminal.Terminal.TheVariants as t
 use Rattle.jo_grammar.specs.Expressions.{Mark, mark}
 use Rattle.jo_grammar.specs.Refusals.{Language, terms, unexpected}
-use Rattle.jo_grammar.specs.Read.{Reader, and_then, peek, next, code, sees}
+use Rattle.jo_grammar.specs.inner.Read.{Reader, and_then, peek, next, code, sees}
 use Rattle.jo_grammar.proofs.Outcome.{Stops, Outcome, bind, outcome-bind, Any, nothing, outcome-pure, one, outcome-fail, outcome-if, join, sees-cons, sees-false, outcome-sees, first-of, some-after, plain-after}
 use Rattle.jo_grammar.proofs.Levels.{not-longer}
 

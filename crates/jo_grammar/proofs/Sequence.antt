@@ -3,7 +3,7 @@ use Rattle.std.proofs.Common.{◌≡◌, ℕ, List, [], ◌∷◌, ◌++◌, Res
 use Rattle.jo_grammar.specs.declared.terminal.Terminal.{Terminal}
 use Rattle.jo_grammar.specs.Expressions.{Mark}
 use Rattle.jo_grammar.specs.Refusals.{Language, terms, BeginsWithin, Never, OpensTooMany, EachOpensTooMany, Fault, unexpected, too_deep, IsRefused}
-use Rattle.jo_grammar.specs.Read.{peek}
+use Rattle.jo_grammar.specs.inner.Read.{peek}
 use Rattle.jo_grammar.proofs.Outcome.{terms-append, Within-append, cancel, Stops, Whole, Stuck, Deep, Failing, bind}
 use Rattle.jo_grammar.proofs.Accepted.{list-end, Answers}
 

@@ -9,7 +9,7 @@ use Rattle.jo_tree.specs.Trees.{Tree, Head, Statement, empty, block, when, eithe
 use Rattle.jo_grammar.specs.Expressions.{Mark, mark, word, Fits, spelling, first}
 use Rattle.jo_grammar.specs.Statements.{FitStatement, IsClosed, optional, head, arguments, bracketed, statement, items}
 use Rattle.jo_grammar.specs.Refusals.{Language, terms}
-use Rattle.jo_grammar.specs.Read.{peek}
+use Rattle.jo_grammar.specs.inner.Read.{peek}
 use Rattle.jo_grammar.proofs.Outcome.{bind, nothing, one, mapped, join}
 use Rattle.jo_grammar.proofs.Levels.{nil-right, closed_by}
 use Rattle.jo_grammar.proofs.First.{begins_tree, first-begins, run-is, statement_language}

@@ -10,8 +10,8 @@ use Rattle.jo_tree.specs.Trees.{Tree, Head, Statement, empty, block, when, eithe
 use Rattle.jo_grammar.specs.Expressions.{Mark, mark}
 use Rattle.jo_grammar.specs.Statements.{IsClosed}
 use Rattle.jo_grammar.specs.Refusals.{Language, terms}
-use Rattle.jo_grammar.specs.Read.{Reading, and_then, peek, next, sees, expect, read}
-use Rattle.jo_grammar.specs.ReadStatements.{Within, in_brackets_at, optional_ended, head_at, arguments_after, run_at, print_after, print_names_after, leave_at, else_after, if_after, while_after, for_after, block_after, keyword_statement, punct_statement, statement_at, nothing_within, read_statement}
+use Rattle.jo_grammar.specs.inner.Read.{Reading, and_then, peek, next, sees, expect, read}
+use Rattle.jo_grammar.specs.inner.ReadStatements.{Within, in_brackets_at, optional_ended, head_at, arguments_after, run_at, print_after, print_names_after, leave_at, else_after, if_after, while_after, for_after, block_after, keyword_statement, punct_statement, statement_at, nothing_within, read_statement}
 use Rattle.jo_grammar.proofs.Outcome.{Outcome, bind, outcome-bind, outcome-choose, Any, nothing, outcome-pure, one, outcome-fail, outcome-if, mapped, outcome-map, sees-true, sees-cons, sees-false, peek-cons, first-of, some-after, outcome-expect, opened-with, plain-after, outcome-enter}
 use Rattle.jo_grammar.proofs.Levels.{outcome-closed}
 use Rattle.jo_grammar.proofs.Exact.{outcome-read}

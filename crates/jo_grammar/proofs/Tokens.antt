@@ -11,7 +11,7 @@ use Rattle.jo_tree.specs.declared.operator.BinaryOperator.TheVariants as bin
 use Rattle.jo_grammar.specs.declared.terminal.Terminal.{Terminal}
 use Rattle.jo_grammar.specs.declared.terminal.Terminal.TheVariants as t
 use Rattle.jo_grammar.specs.Operators.{binary_token, level_of, assign_token}
-use Rattle.jo_grammar.specs.Read.{punct_rank, rank, binary_of, assign_of}
+use Rattle.jo_grammar.specs.inner.Read.{punct_rank, rank, binary_of, assign_of}
 
 -- the token of a binary level is that of its operator, which may stand there
 abbrev pub IsBinary : Bool → Terminal → Type 0

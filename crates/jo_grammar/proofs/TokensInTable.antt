@@ -17,7 +17,7 @@ use Rattle.jo_lex.specs.Characters.{Characters, size, is_blank, is_in_line, is_w
 use Rattle.jo_lex.specs.Punctuators.{Entry, punctuator_of}
 use Rattle.jo_lex.specs.Words.{is_reserved}
 use Rattle.jo_lex.specs.Pieces.{Lexeme, word, text, number, punctuator, Piece, gap, lexeme, fault, after_close, closed, comment, word_piece, quoted, text_piece, decimal, judged, number_piece, accepted, punctuator_piece, token_piece, piece}
-use Rattle.jo_lex.specs.Tokens.{Progress, Advance, ended, refused, onward, is_one_too_many, numbered, word_kind, token_kind, place_after, with_token, taken, next_of, next, going_on, reached, start, last, end_token, IsRead}
+use Rattle.jo_lex.specs.Tokens.{Progress, Advance, ended, refused, onward, is_one_too_many, identified, word_kind, token_kind, place_after, with_token, taken, next_of, next, going_on, reached, start, last, end_token, IsRead}
 use Rattle.jo_grammar.specs.Sound.{IsInRange}
 
 -- ---- numbers in pieces

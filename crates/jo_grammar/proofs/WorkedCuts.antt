@@ -4,7 +4,7 @@ use Rattle.std.specs.Prelude.{codes}
 use Rattle.jo_grammar.specs.Cuts.{Section, lines_of, sections_from, sections_of}
 
 abbrev at : ℕ → List ℕ → Section
-at start text = record { start = start; text = text }
+at start input = record { start = start; input = input }
 
 an_empty_text_is_one_script : sections_of [] ≡ at 0 [] ∷ []
 unfolding lines_of sections_from

@@ -1,4 +1,4 @@
--- How the text of a set is cut into its scripts.
+-- How the input of a set is cut into its scripts.
 use Rattle.std.specs.Prelude.{◌≡◌, ℕ, ◌+◌, ◌<◌, ◌≤◌, ◌-◌, ◌==◌, ◌||◌, Bool, if◌then◌else◌, List, [], ◌∷◌, ◌++◌, length, map, slice_get, Some, codes}
 use Rattle.std.specs.Str.{bytes_eq}
 use Rattle.jo_value.specs.declared.limits.TheConstants.{MOST_SCRIPTS}
@@ -10,10 +10,10 @@ abbrev pub with_first : ℕ → List (List ℕ) → List (List ℕ)
 with_first b [] = (b ∷ []) ∷ []
 with_first b (line ∷ lines) = (b ∷ line) ∷ lines
 
--- the lines of a text, each with the line feed that ends it; the last one may have none
+-- the lines of an input, each with the line feed that ends it; the last one may have none
 unfoldable pub lines_of : List ℕ → List (List ℕ)
 lines_of [] = []
-lines_of (b ∷ text) = if b == 10 then (b ∷ []) ∷ lines_of text else with_first b (lines_of text)
+lines_of (b ∷ input) = if b == 10 then (b ∷ []) ∷ lines_of input else with_first b (lines_of input)
 
 -- the line is `%%`, with or without a carriage return after it
 abbrev pub is_separator : List ℕ → Bool
@@ -22,23 +22,23 @@ is_separator line =
 
 -- ---- scripts
 
--- a script of a set: how many bytes stand before it, and its text
+-- a script of a set: how many bytes stand before it, and its input
 pub record Section : Type 0 where
   pub start : ℕ
-  pub text : List ℕ
+  pub input : List ℕ
 
 -- how many bytes stand before what follows the script
 abbrev pub end_of : Section → ℕ
-end_of section = section.start + length section.text
+end_of section = section.start + length section.input
 
--- The scripts that end in these lines or after them, where one has begun at a place and has some text. A separator ends
+-- The scripts that end in these lines or after them, where one has begun at a place and has some input. A separator ends
 -- it, and the next one begins after the separator; any other line goes on with it.
 unfoldable pub sections_from : ℕ → List ℕ → List (List ℕ) → List Section
-sections_from start text [] = record { start = start; text = text } ∷ []
-sections_from start text (line ∷ lines) =
+sections_from start input [] = record { start = start; input = input } ∷ []
+sections_from start input (line ∷ lines) =
     if is_separator line
-    then record { start = start; text = text } ∷ sections_from (start + length text + length line) [] lines
-    else sections_from start (text ++ line) lines
+    then record { start = start; input = input } ∷ sections_from (start + length input + length line) [] lines
+    else sections_from start (input ++ line) lines
 
 -- each of the scripts ends at the bound or before it
 abbrev pub AreWithin : ℕ → List Section → Type 0
@@ -47,7 +47,7 @@ AreWithin bound (section ∷ sections) = (end_of section ≤ bound) × AreWithin
 
 -- the scripts of a set
 abbrev pub sections_of : List ℕ → List Section
-sections_of text = sections_from 0 [] (lines_of text)
+sections_of input = sections_from 0 [] (lines_of input)
 
 -- there is a script too many: the place of the separator that would begin it
 abbrev pub IsOneTooMany : List Section → ℕ → Type 0

@@ -2,8 +2,6 @@ pub mod Operators
 pub mod Expressions
 pub mod Statements
 pub mod Refusals
-pub mod Read
-pub mod ReadStatements
 pub mod Terminals
 pub mod TokenRefusals
 pub mod Declarations
@@ -12,3 +10,4 @@ pub mod Sound
 pub mod Cuts
 pub mod Sets
 pub mod Soundness
+pub mod inner

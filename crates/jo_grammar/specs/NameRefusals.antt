@@ -1,12 +1,12 @@
 -- What the code answers of a script's names.
 use Rattle.std.specs.Prelude.{◌≡◌, Some}
 use Rattle.jo_lex.specs.declared.refusal.ParseFault.{ParseFault}
-use Rattle.jo_lex.specs.declared.refusal.ParseFault.TheVariants.{Memory, Refused}
+use Rattle.jo_lex.specs.Faults.{IsMemoryOr}
 use Rattle.jo_lex.specs.declared.refusal.Refusal.{Refusal}
 use Rattle.jo_lex.specs.declared.refusal.RefusalKind.{RefusalKind}
 use Rattle.jo_lex.specs.declared.refusal.RefusalKind.TheVariants.{Undeclared, Twice}
 use Rattle.jo_tree.specs.Trees.{Items}
-use Rattle.jo_grammar.specs.Declarations.{ScopeFault, undeclared, twice, Found, refusal_of}
+use Rattle.jo_grammar.specs.Declarations.{ScopeFault, undeclared, twice, Found, first_fault}
 
 abbrev pub name_refusal_kind : ScopeFault → RefusalKind
 name_refusal_kind undeclared = Undeclared
@@ -18,5 +18,4 @@ refusal_for found = record { kind = name_refusal_kind found.0; place = found.1 }
 
 -- want of memory, or the refusal for the first fault of the script
 abbrev pub IsNameFault : Items → ParseFault → Type 0
-IsNameFault script Memory = Unit {0}
-IsNameFault script (Refused refusal) = (found : Found) × (refusal_of script ≡ Some found) × (refusal ≡ refusal_for found)
+IsNameFault script = IsMemoryOr (λ refusal. (found : Found) × (first_fault script ≡ Some found) × (refusal ≡ refusal_for found))

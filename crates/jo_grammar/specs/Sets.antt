@@ -24,7 +24,7 @@ use Rattle.jo_grammar.specs.Cuts.{Section, sections_of, IsOneTooMany}
 
 -- the lexer at the front of a script, with the table that the scripts before left
 abbrev pub begun : Table → Section → Progress
-begun texts section = start section.start texts (chars section.text)
+begun texts section = start section.start texts (chars section.input)
 
 -- the scripts are read into tokens, one after another into one table
 abbrev pub AreRead : Table → List Section → List (List Token) → Table → Type 0
@@ -37,7 +37,7 @@ AreRead texts _ _ end = ⊥
 abbrev pub IsFirstUnread : Table → List Section → Refusal → Type 0
 IsFirstUnread texts [] refusal = ⊥
 IsFirstUnread texts (section ∷ sections) refusal =
-    ((after : Table) × lexed.IsRefused (begun texts section) refusal after)
+    ((after : Table) × lexed.StopsAt (begun texts section) refusal after)
     ⊎ ((tokens : List Token) × (after : Table) × IsRead (begun texts section) tokens after × IsFirstUnread after sections refusal)
 
 -- there is one script, and it has no token but its end

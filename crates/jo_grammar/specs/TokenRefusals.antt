@@ -7,6 +7,7 @@ use Rattle.jo_lex.specs.declared.refusal.Refusal.{Refusal}
 use Rattle.jo_lex.specs.declared.refusal.RefusalKind.{RefusalKind}
 use Rattle.jo_lex.specs.declared.refusal.RefusalKind.TheVariants.{Unexpected, NestedTooDeep}
 use Rattle.jo_lex.specs.declared.token.Token.{Token}
+use Rattle.jo_lex.specs.Faults.{IsMemoryOr}
 use Rattle.jo_grammar.specs.declared.terminal.Terminal.{Terminal}
 use Rattle.jo_grammar.specs.Refusals.{Language, Fault, unexpected, too_deep, IsRefused}
 use Rattle.jo_value.specs.declared.limits.TheConstants.{MOST_OPEN}
@@ -29,13 +30,6 @@ Gives view tree (Ok x) = view x ≡ tree
 Gives view tree (Err Memory) = Unit {0}
 Gives view tree (Err (Refused r)) = ⊥
 
--- the answer is this refusal, unless memory fails
-abbrev pub Refuses : {X : Type 0} → Refusal → Result X ParseFault → Type 0
-Refuses refusal (Ok x) = ⊥
-Refuses refusal (Err Memory) = Unit {0}
-Refuses refusal (Err (Refused r)) = r ≡ refusal
-
 -- a fault of memory, or the refusal of the terminals by the grammar and the limit
 abbrev pub IsFault : {A : Type 0} → Language A → List Token → List Terminal → ParseFault → Type 0
-IsFault L tokens ts Memory = Unit {0}
-IsFault L tokens ts (Refused r) = (fault : Fault) × (rest : List Terminal) × IsRefused L MOST_OPEN fault ts rest × (r ≡ refusal_of tokens ts fault rest)
+IsFault L tokens ts = IsMemoryOr (λ r. (fault : Fault) × (rest : List Terminal) × IsRefused L MOST_OPEN fault ts rest × (r ≡ refusal_of tokens ts fault rest))

@@ -3,7 +3,7 @@ use Rattle.std.proofs.Common.{◌≡◌, ◌<◌, ◌≤◌, ℕ, Bool, true, fa
 use Rattle.std.proofs.lemmas.Bool.{and_from, and_parts, eqb-true, false_from_ne_true, leb-true, ltb-true, ltb-false, le-leb, lt-ltb, le-ltb, cases_lt, cond_both}
 use Rattle.std.specs.List.{list_any, list_all}
 use Rattle.jo_lex.specs.Punctuators.{Entry, table, fits, longer, longest, punctuator_of}
-use Rattle.jo_lex.specs.Views.{is_ascii, is_falling, may_begin, put, longer_first, entries_for}
+use Rattle.jo_lex.specs.inner.Views.{is_ascii, is_falling, may_begin, put, longer_first, entries_for}
 use Rattle.jo_lex.proofs.Punctuation.{falling_parts}
 
 -- ---- what the punctuators begin with

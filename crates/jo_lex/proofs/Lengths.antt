@@ -5,7 +5,7 @@ use Rattle.std.proofs.lemmas.Map.Views.{any-filter_same}
 use Rattle.std.proofs.lemmas.Slice.Eq.{bytes_eq-Decides}
 use Rattle.std.specs.List.{list_any, list_all}
 use Rattle.std.specs.Str.{bytes_eq}
-use Rattle.jo_lex.specs.Views.{words_of}
+use Rattle.jo_lex.specs.inner.Views.{words_of}
 use Rattle.jo_lex.specs.Words.{reserved_words, is_reserved}
 
 -- how long a reserved word may be

@@ -11,7 +11,7 @@ use Rattle.jo_value.specs.Texts.{is_digit}
 use Rattle.std.specs.Str.{bytes_eq, chars, encode_utf8_all, IsUtf8, IsAscii}
 use Rattle.jo_lex.specs.declared.punct.Punct.{Punct}
 use Rattle.jo_lex.specs.Punctuators.{Entry, fits, longer, longest}
-use Rattle.jo_lex.specs.Views.{entries_of, is_ascii, is_falling}
+use Rattle.jo_lex.specs.inner.Views.{entries_of, is_ascii, is_falling}
 
 pub IsAscii-from_test : (bs : List ℕ) → is_ascii bs ≡ true → IsAscii bs
 IsAscii-from_test [] e i = omega arith

@@ -10,7 +10,7 @@ use Rattle.jo_lex.specs.Pieces.{Lexeme, gap, lexeme, piece}
 use Rattle.jo_lex.specs.declared.refusal.ParseFault.{ParseFault}
 use Rattle.jo_lex.specs.declared.refusal.ParseFault.TheVariants.{Memory, Refused}
 use Rattle.jo_lex.specs.declared.refusal.RefusalKind.{RefusalKind}
-use Rattle.jo_lex.specs.Steps.{at, FailsAt}
+use Rattle.jo_lex.specs.inner.Steps.{at, FailsAt}
 use Rattle.jo_lex.specs.Tokens.{Progress, Advance, ended, refused, onward, token_kind, place_after, with_token, taken, next_of, next, going_on, reached, start, last, end_token, IsRead, Fails}
 
 pub size-chars : (bs : List ℕ) → IsUtf8 bs → size (chars bs) ≡ length bs

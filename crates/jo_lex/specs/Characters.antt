@@ -1,5 +1,5 @@
 -- The characters of a script (ECMA-262, Source Text, White Space, Line Terminators and Names).
-use Rattle.std.specs.Prelude.{ℕ, Bool, false, not, ◌&&◌, ◌||◌, ◌==◌, nat_le, List, [], ◌∷◌, length, if◌then◌else◌}
+use Rattle.std.specs.Prelude.{◌≡◌, ℕ, Bool, false, not, ◌&&◌, ◌||◌, ◌==◌, nat_le, List, [], ◌∷◌, ◌++◌, length, if◌then◌else◌}
 use Rattle.std.specs.Str.{encode_utf8_all}
 use Rattle.jo_value.specs.Texts.{is_digit}
 use Rattle.unicode_ident.specs.Ident.{is_xid_start, is_xid_continue}
@@ -53,3 +53,7 @@ begins_with p (c ∷ cs) = p c
 abbrev pub drop_while : (ℕ → Bool) → Characters → Characters
 drop_while p [] = []
 drop_while p (c ∷ cs) = if p c then drop_while p cs else c ∷ cs
+
+-- the bytes end so
+abbrev pub EndsWith : List ℕ → List ℕ → Type 0
+EndsWith bytes end = (front : List ℕ) × (bytes ≡ front ++ end)

@@ -4,7 +4,8 @@ ghost use Rattle.std.specs.List.{take_while};
 ghost use Rattle.std.specs.Str.{chars, encode_utf8_all};
 ghost use Rattle.jo_value.specs.Texts.{is_digit};
 ghost use Rattle.jo_lex.specs.Characters as spec;
-ghost use Rattle.jo_lex.specs.Classes.{test_of, EndsWith};
+ghost use Rattle.jo_lex.specs.inner.Classes.{test_of};
+ghost use Rattle.jo_lex.specs.Characters.{EndsWith};
 
 use unicode_ident::{is_xid_continue, is_xid_start};
 

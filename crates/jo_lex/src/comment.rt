@@ -4,7 +4,7 @@ ghost use Rattle.std.specs.Option.{option_map};
 ghost use Rattle.std.specs.Str.{chars};
 ghost use Rattle.jo_lex.specs.Characters.{begins_with};
 ghost use Rattle.jo_lex.specs.Pieces as spec;
-ghost use Rattle.jo_lex.specs.Views.{piece_of, IsWithin};
+ghost use Rattle.jo_lex.specs.inner.Views.{piece_of, IsWithin};
 
 use crate::RefusalKind;
 use crate::character::{Class, first_of, past};

@@ -1,6 +1,7 @@
-//! From the text of a script to its tokens, or to the first place that begins none.
+//! From a script, as its input, to its tokens, or to the first place that begins none.
 #![tactic(auto)]
 
+mod beginning;
 mod character;
 mod comment;
 mod literal;
@@ -12,6 +13,7 @@ mod refusal;
 mod reserved;
 mod token;
 
+pub use beginning::front;
 pub use punct::Punct;
 pub use reader::tokens;
 pub use refusal::{ParseFault, Refusal, RefusalKind};

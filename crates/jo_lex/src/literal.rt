@@ -6,11 +6,12 @@ ghost use Rattle.std.specs.String.{string_bytes};
 ghost use Rattle.jo_value.specs.declared.limits.TheConstants.{MOST_NUMBER};
 ghost use Rattle.jo_value.specs.Texts.{is_digit};
 ghost use Rattle.jo_lex.specs.Pieces as spec;
-ghost use Rattle.jo_lex.specs.Views.{piece_of, stroke_of, IsWithin};
+ghost use Rattle.jo_lex.specs.inner.Views.{piece_of, stroke_of, IsWithin};
 
 use crate::RefusalKind;
+use crate::beginning::front;
 use crate::character::{Class, begins, first_of, past};
-use crate::piece::{Lexeme, Piece, front};
+use crate::piece::{Lexeme, Piece};
 use jo_value::{MOST_NUMBER, MOST_TEXT_BYTES};
 use std::alloc::{AllocError, Global};
 

@@ -3,7 +3,7 @@ ghost use Rattle.std.specs.Prelude.{◌≡◌, ◌+◌, ◌-◌, ◌<◌, [], �
 ghost use Rattle.std.specs.Str.{chars};
 ghost use Rattle.jo_lex.specs.Pieces as spec;
 ghost use Rattle.jo_lex.specs.Punctuators.{fits, longest, punctuator_of, Entry};
-ghost use Rattle.jo_lex.specs.Views.{piece_of, IsWithin, entries_of, is_ascii, is_falling};
+ghost use Rattle.jo_lex.specs.inner.Views.{piece_of, IsWithin, entries_of, is_ascii, is_falling};
 
 use crate::character::{Class, begins};
 use crate::piece::{Lexeme, Piece};

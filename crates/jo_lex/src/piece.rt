@@ -1,11 +1,11 @@
-// The piece that stands at the front of a text.
+// The piece at the front of what is left.
 ghost use Rattle.std.specs.Prelude.{◌≡◌, ◌-◌, ◌<◌, ◌∷◌, ◌++◌, length, encode_utf8, IfOk};
 ghost use Rattle.std.specs.Str.{chars};
-ghost use Rattle.jo_lex.specs.Classes.{EndsWith};
 ghost use Rattle.jo_lex.specs.Pieces as spec;
-ghost use Rattle.jo_lex.specs.Views.{piece_of, IsWithin};
+ghost use Rattle.jo_lex.specs.inner.Views.{piece_of, IsWithin};
 
 use crate::character::{Class, is_in, past};
+use crate::beginning::front;
 use crate::comment::comment;
 use crate::literal::{number, text_literal};
 use crate::operator::operator;
@@ -28,15 +28,6 @@ pub(crate) enum Piece<'a> {
     Gap(&'a str),
     Token(Lexeme<'a>, &'a str),
     Fault(RefusalKind),
-}
-
-// What stands before the end of a text.
-pub(crate) fn front<'a>(input: &'a str, end: &str) -> &'a str
-    requires { EndsWith input.now end.now }
-    ensures { input.now ≡ result.now ++ end.now }
-{
-    let (front, _) = input.split_at(input.len() - end.len());
-    front
 }
 
 // The word that begins with this character.

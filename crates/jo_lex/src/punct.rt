@@ -1,6 +1,6 @@
 // The punctuators.
 ghost use Rattle.std.specs.Prelude.{◌≡◌};
-ghost use Rattle.jo_lex.specs.Views.{entries_of, entries_for};
+ghost use Rattle.jo_lex.specs.inner.Views.{entries_of, entries_for};
 
 /// A punctuator that is accepted.
 #[derive(Clone, Copy, PartialEq, Eq)]

@@ -2,8 +2,8 @@
 ghost use Rattle.std.specs.Prelude.{◌≡◌, ◌+◌, ◌-◌, ◌<◌, ◌≤◌, ℕ, [], ◌∷◌, ◌++◌, length, encode_utf8, IfOk, IfErr, IsErrOf, OnOk, OnErr, Some, None};
 ghost use Rattle.std.specs.Str.{chars};
 ghost use Rattle.jo_lex.specs.Tokens as spec;
-ghost use Rattle.jo_lex.specs.Views.{lexeme_of};
-ghost use Rattle.jo_lex.specs.Steps.{at, fault_at, AddsToken, IsTooMany, FailsAt};
+ghost use Rattle.jo_lex.specs.inner.Views.{lexeme_of};
+ghost use Rattle.jo_lex.specs.inner.Steps.{at, fault_at, AddsToken, IsTooMany, FailsAt};
 
 use crate::character::first_of;
 use crate::piece::{Lexeme, Piece, piece_at};

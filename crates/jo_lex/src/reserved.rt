@@ -3,7 +3,7 @@ ghost use Rattle.std.specs.Prelude.{◌≡◌, ◌==◌, length, filter};
 ghost use Rattle.std.specs.List.{list_any};
 ghost use Rattle.std.specs.Str.{bytes_eq};
 ghost use Rattle.jo_lex.specs.Words.{reserved_words, is_reserved};
-ghost use Rattle.jo_lex.specs.Views.{words_of};
+ghost use Rattle.jo_lex.specs.inner.Views.{words_of};
 
 // The reserved words of so many bytes.
 fn of_length(bytes: usize) -> &'static [&'static str]

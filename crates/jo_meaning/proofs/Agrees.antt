@@ -5,7 +5,7 @@ use Rattle.jo_tree.specs.declared.word.Ident.{Ident}
 use Rattle.jo_grammar.specs.Declarations as judged
 use Rattle.jo_grammar.specs.Declarations.{Scope}
 use Rattle.jo_meaning.specs.State.{variable_of}
-use Rattle.jo_meaning.specs.Meant.{around, IsOwn, one_of, IsMeant}
+use Rattle.jo_meaning.specs.inner.Meant.{around, IsOwn, one_of, IsMeant}
 
 longer : (names outer : List ℕ) → length outer ≤ length (names ++ outer)
 longer [] outer = omega arith

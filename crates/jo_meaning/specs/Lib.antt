@@ -9,4 +9,4 @@ pub mod Scripts
 pub mod Play
 pub mod Histories
 pub mod Output
-pub mod Meant
+pub mod inner

@@ -5,7 +5,7 @@ use Rattle.jo_tree.specs.declared.word.Ident.{Ident}
 use Rattle.jo_tree.specs.Blocks.{names_of, declared_in, declared_by}
 use Rattle.jo_tree.specs.Trees.{Binding, Head, declares, begins, Statement, empty, block, when, either, while, for, break, continue, print, print_names, evaluate, Items, no_items, declare, perform}
 use Rattle.jo_grammar.specs.Declarations.{Scope, Found, at_beginning, at_end, scope_after, scope_after_all, is_among, is_bound, uses_of, uses_of_optional, uses_of_all, twice, undeclared, faults_of_uses, faults_of_name, faults_of_bindings, faults_of_head, faults_of, faults_of_items}
-use Rattle.jo_names.specs.Blocks.{IsAlike}
+use Rattle.jo_names.specs.inner.Blocks.{IsAlike}
 
 -- uses mean the same in both
 abbrev pub BindsSame : List Scope → List Scope → Type 0

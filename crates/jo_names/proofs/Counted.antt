@@ -7,7 +7,7 @@ use Rattle.jo_tree.specs.declared.script.Item.TheVariants as i
 use Rattle.jo_tree.specs.Blocks.{names_of, declared_in}
 use Rattle.jo_tree.specs.ScriptViews.{bindings_list, items_list}
 use Rattle.jo_grammar.specs.Declarations.{Scope, is_among, at_beginning}
-use Rattle.jo_names.specs.Blocks.{HasSame, IsAlike, Declares, DeclaresAll, with_names, item_names}
+use Rattle.jo_names.specs.inner.Blocks.{HasSame, IsAlike, Declares, DeclaresAll, with_names, item_names}
 use Rattle.jo_names.proofs.Turns.{drop-at}
 
 either-swap : (a b c : Bool) → (a || (b || c)) ≡ (b || (a || c))

@@ -3,7 +3,7 @@ use Rattle.std.proofs.Common.{◌≡◌, List, [], ◌∷◌, ◌++◌, Result, 
 use Rattle.jo_lex.specs.declared.refusal.ParseFault.{ParseFault}
 use Rattle.jo_lex.specs.declared.refusal.ParseFault.TheVariants.{Memory, Refused}
 use Rattle.jo_grammar.specs.Declarations.{Found}
-use Rattle.jo_names.specs.Blocks.{answer_to, refused, Judges}
+use Rattle.jo_names.specs.inner.Blocks.{answer_to, refused, Judges}
 use Rattle.jo_names.proofs.Turns.{answer_to-append, after_err, after_ok}
 
 pub judges-refused : (faults : List Found) → Judges faults (refused (answer_to faults))

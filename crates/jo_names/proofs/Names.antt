@@ -3,7 +3,7 @@ use Rattle.std.proofs.Common.{◌≡◌, ℕ, arith, Bool, true, false, cond, Li
 use Rattle.std.specs.Prelude.{nat_eq, ◌||◌}
 use Rattle.std.specs.List.{list_any}
 use Rattle.jo_grammar.specs.Declarations.{is_among}
-use Rattle.jo_names.specs.Blocks.{HasSame}
+use Rattle.jo_names.specs.inner.Blocks.{HasSame}
 
 pub same_turned : (a b : ℕ) → nat_eq a b ≡ nat_eq b a
 same_turned a b = grind arith

@@ -9,7 +9,7 @@ use Rattle.jo_tree.specs.Blocks.{declared_in}
 use Rattle.jo_tree.specs.ScriptViews.{items_list}
 use Rattle.jo_tree.specs.Trees.{Items}
 use Rattle.jo_grammar.specs.Declarations.{Scope, Found, IsDeclared, at_beginning, faults, faults_of_items, first_of_faults, is_bound}
-use Rattle.jo_names.specs.Blocks.{Scopes, IsAlike, Judges, answer_to}
+use Rattle.jo_names.specs.inner.Blocks.{Scopes, IsAlike, Judges, answer_to}
 use Rattle.jo_grammar.specs.NameRefusals.{IsNameFault, refusal_for}
 use Rattle.jo_names.proofs.Alike.{items-same}
 use Rattle.jo_names.proofs.Judging.{judged_same}

@@ -8,7 +8,7 @@ use Rattle.jo_tree.specs.Trees.{Binding}
 use Rattle.jo_tree.specs.ScriptViews.{items_list, option_tree, statement_tree}
 use Rattle.jo_tree.proofs.ScriptShapes.{script_shapes, statement_tree-block}
 use Rattle.jo_grammar.specs.Declarations.{Scope, at_beginning, at_end, scope_after, scope_after_all, is_among, is_bound, uses_of_optional, faults_of, faults_of_uses, faults_of_bindings, faults_of_items}
-use Rattle.jo_names.specs.Blocks.{Scopes, all_of, IsAlike, Enters, Moves, round_faults}
+use Rattle.jo_names.specs.inner.Blocks.{Scopes, all_of, IsAlike, Enters, Moves, round_faults}
 use Rattle.jo_names.proofs.Alike.{BindsSame, alike_then, binds-inside, bindings-same, scope_after_all-alike, items-same, uses-same, faults-same}
 use Rattle.jo_names.proofs.Counted.{put-front}
 

@@ -5,7 +5,7 @@ use Rattle.jo_tree.specs.declared.script.Item.{Item}
 use Rattle.jo_tree.specs.declared.script.Item.TheVariants as i
 use Rattle.jo_tree.specs.ScriptViews.{binding_tree, bindings_list, items_list}
 use Rattle.jo_grammar.specs.Declarations.{Scope, scope_after, scope_after_all, is_bound, uses_of_optional, faults_of_name, faults_of_uses, faults_of_bindings, faults_of_items}
-use Rattle.jo_names.specs.Blocks.{Scopes, all_of, IsAlike, Ends, Moves, binding_faults, item_faults, scope_after_item}
+use Rattle.jo_names.specs.inner.Blocks.{Scopes, all_of, IsAlike, Ends, Moves, binding_faults, item_faults, scope_after_item}
 use Rattle.jo_names.proofs.Turns.{drop-at}
 use Rattle.jo_names.proofs.Alike.{alike_then, bindings-same, scope_after_all-alike, items-same}
 

@@ -15,7 +15,7 @@ use Rattle.jo_tree.specs.Trees.{chain, object, no_accesses}
 use Rattle.jo_tree.specs.Views.{expr_tree, chain_tree, object_tree, links_list, props_list, accesses_list, accesses_with}
 use Rattle.jo_tree.specs.ScriptViews.{trees_list}
 use Rattle.jo_grammar.specs.Declarations.{Scope, Found, faults_of_uses, uses_of, uses_of_accesses, uses_of_all, uses_of_links, uses_of_props}
-use Rattle.jo_names.specs.Blocks.{answer_to, and_then}
+use Rattle.jo_names.specs.inner.Blocks.{answer_to, and_then}
 use Rattle.jo_tree.proofs.Shapes.{shapes, chain_tree-binary, object_tree-of}
 
 -- ---- answers

@@ -1,7 +1,7 @@
 // The names of one block.
 ghost use Rattle.std.specs.Prelude.{◌≡◌, [], IfOk, OnOk};
 ghost use Rattle.jo_grammar.specs.Declarations.{at_beginning, is_among};
-ghost use Rattle.jo_names.specs.Blocks.{Declares, DeclaresAll, Ends, IsAlike, item_names};
+ghost use Rattle.jo_names.specs.inner.Blocks.{Declares, DeclaresAll, Ends, IsAlike, item_names};
 ghost use Rattle.jo_tree.specs.Blocks.{declared_in, names_of};
 ghost use Rattle.jo_tree.specs.ScriptViews.{bindings_list, items_list};
 

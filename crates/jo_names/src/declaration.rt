@@ -1,7 +1,7 @@
 // Declarations of variables.
 ghost use Rattle.std.specs.Prelude.{◌≡◌, OnOk};
 ghost use Rattle.jo_grammar.specs.Declarations.{scope_after_all, faults_of_bindings, faults_of_name, faults_of_uses, uses_of_optional};
-ghost use Rattle.jo_names.specs.Blocks.{Ends, Judges, Moves, all_of, answer_to, binding_faults, refused};
+ghost use Rattle.jo_names.specs.inner.Blocks.{Ends, Judges, Moves, all_of, answer_to, binding_faults, refused};
 ghost use Rattle.jo_tree.specs.ScriptViews.{binding_tree, bindings_list, option_tree};
 
 use crate::scopes::Scopes;

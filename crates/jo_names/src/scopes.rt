@@ -1,7 +1,7 @@
 // The blocks around a place.
 ghost use Rattle.std.specs.Prelude.{◌≡◌, [], ◌∷◌, IfOk, OnOk, reverse};
 ghost use Rattle.jo_grammar.specs.Declarations.{at_beginning, is_among, is_bound};
-ghost use Rattle.jo_names.specs.Blocks.{Ends, IsAlike, all_of, left};
+ghost use Rattle.jo_names.specs.inner.Blocks.{Ends, IsAlike, all_of, left};
 ghost use Rattle.jo_tree.specs.Blocks.{declared_in, names_of};
 ghost use Rattle.jo_tree.specs.ScriptViews.{bindings_list, items_list};
 
@@ -34,7 +34,7 @@ pub(crate) struct Scopes {
 
 impl Model for Scopes {
     ghost use Rattle.std.specs.Prelude.{reverse};
-    ghost use Rattle.jo_names.specs.Blocks.{Scopes};
+    ghost use Rattle.jo_names.specs.inner.Blocks.{Scopes};
 
     ghost Value = { Scopes };
 

@@ -1,7 +1,7 @@
 // Statements, and the items of blocks.
 ghost use Rattle.std.specs.Prelude.{◌≡◌, ◌++◌, OnOk};
 ghost use Rattle.jo_grammar.specs.Declarations.{at_beginning, at_end, faults_of, faults_of_head, faults_of_items, faults_of_uses, uses_of, uses_of_all, uses_of_optional};
-ghost use Rattle.jo_names.specs.Blocks.{Enters, Judges, Moves, all_of, answer_to, scope_after_item, item_faults, round_faults};
+ghost use Rattle.jo_names.specs.inner.Blocks.{Enters, Judges, Moves, all_of, answer_to, scope_after_item, item_faults, round_faults};
 ghost use Rattle.jo_tree.specs.Blocks.{declared_by, declared_in, names_of};
 ghost use Rattle.jo_tree.specs.ScriptViews.{bindings_list, head_tree, if_tree, items_list, option_tree, optional_statement, statement_tree, trees_list};
 ghost use Rattle.jo_tree.specs.Trees.{declares, for, while};

@@ -1,5 +1,5 @@
 // The uses of names in expressions.
-ghost use Rattle.jo_names.specs.Blocks.{all_of, answer_to};
+ghost use Rattle.jo_names.specs.inner.Blocks.{all_of, answer_to};
 ghost use Rattle.jo_grammar.specs.Declarations.{faults_of_uses, uses_of, uses_of_accesses, uses_of_all, uses_of_links, uses_of_optional, uses_of_props};
 ghost use Rattle.std.specs.Prelude.{◌≡◌, ◌∷◌, []};
 ghost use Rattle.jo_tree.specs.Trees.{no_accesses};

@@ -5,9 +5,10 @@ use Rattle.jo_value.specs.Texts.{Table}
 use Rattle.jo_lex.specs.declared.refusal.Refusal.{Refusal}
 use Rattle.jo_lex.specs.declared.refusal.ParseFault.{ParseFault}
 use Rattle.jo_lex.specs.declared.refusal.ParseFault.TheVariants.{Memory, Refused}
+use Rattle.jo_lex.specs.Faults.{Refuses}
 use Rattle.jo_tree.specs.Trees.{Items}
 use Rattle.jo_grammar.specs.Sets.{IsAcceptedSet, IsRefusal}
-use Rattle.jo_parse.specs.Parsed.{Parsed, Gives, IsFault, Refuses, trees_of}
+use Rattle.jo_parse.specs.Parsed.{Parsed, Gives, IsFault, trees_of}
 use Rattle.jo_grammar.proofs.OneAnswer.{one_set, set_or_refused, one_refusal}
 
 module _ (bytes : List ℕ) where

@@ -19,9 +19,9 @@ use Rattle.jo_grammar.specs.TokenRefusals.{IsFault}
 use Rattle.jo_grammar.specs.Terminals.{terminals_of}
 use Rattle.jo_parse.specs.declared.section.Section.{Section as Held}
 use Rattle.jo_grammar.specs.Cuts.{Section, AreWithin}
-use Rattle.jo_parse.specs.CutScripts.{section_of, sections_in}
+use Rattle.jo_parse.specs.inner.CutScripts.{section_of, sections_in}
 use Rattle.jo_grammar.specs.Sets.{begun, AreRead, IsFirstUnread, AreScripts, IsMisspelled, IsFirstMisspelled}
-use Rattle.jo_parse.specs.Stages.{IsTreeFault, lists_of}
+use Rattle.jo_parse.specs.inner.Stages.{IsTreeFault, lists_of}
 use Rattle.jo_parse.proofs.Within.{views_left, none_left}
 
 -- ---- tokens
@@ -44,7 +44,7 @@ module _ (start : Table) (scripts : List Section) (here : Table) (section : Sect
     unread = λ refusal g. r.unread refusal (inr (tokens, after, h, g));
   }
 
-  pub one_unread : Reads start scripts here (section ∷ rest) done → (refusal : Refusal) (after : Table) → lexed.IsRefused (begun here section) refusal after
+  pub one_unread : Reads start scripts here (section ∷ rest) done → (refusal : Refusal) (after : Table) → lexed.StopsAt (begun here section) refusal after
       → IsFirstUnread start scripts refusal
   one_unread r refusal after h = r.unread refusal (inl (after, h))
 

@@ -1,9 +1,9 @@
 -- What the reader answers for the bytes of a set.
 use Rattle.std.specs.Prelude.{◌≡◌, ℕ, List, map, Result, Ok, Err}
 use Rattle.jo_value.specs.Texts.{Table}
-use Rattle.jo_lex.specs.declared.refusal.Refusal.{Refusal}
 use Rattle.jo_lex.specs.declared.refusal.ParseFault.{ParseFault}
 use Rattle.jo_lex.specs.declared.refusal.ParseFault.TheVariants.{Memory, Refused}
+use Rattle.jo_lex.specs.Faults.{IsMemoryOr}
 use Rattle.jo_tree.specs.declared.script.Script.{Script}
 use Rattle.jo_tree.specs.ScriptViews.{script_tree}
 use Rattle.jo_tree.specs.Trees.{Items}
@@ -19,17 +19,10 @@ trees_of set = map script_tree set.0
 
 -- want of memory, or the refusal of the bytes
 abbrev pub IsFault : List ℕ → ParseFault → Type 0
-IsFault bytes Memory = Unit {0}
-IsFault bytes (Refused refusal) = IsRefusal bytes refusal
+IsFault bytes = IsMemoryOr (IsRefusal bytes)
 
 -- the answer is these scripts with this table, unless memory fails
 abbrev pub Gives : List Items → Table → Result Parsed ParseFault → Type 0
 Gives scripts texts (Ok set) = (trees_of set ≡ scripts) × (set.1 ≡ texts)
 Gives scripts texts (Err Memory) = Unit {0}
 Gives scripts texts (Err (Refused refusal)) = ⊥
-
--- the answer is this refusal, unless memory fails
-abbrev pub Refuses : {X : Type 0} → Refusal → Result X ParseFault → Type 0
-Refuses refusal (Ok x) = ⊥
-Refuses refusal (Err Memory) = Unit {0}
-Refuses refusal (Err (Refused r)) = r ≡ refusal

@@ -1,15 +1,13 @@
-// From the texts of the scripts to their tokens.
-ghost use Rattle.std.specs.Prelude.{◌≡◌, ◌≤◌, length, IfErr, IfOk};
+// From the sections of a set to their tokens.
+ghost use Rattle.std.specs.Prelude.{◌≡◌, [], false, IfErr, IfOk};
 ghost use Rattle.jo_value.specs.declared.limits.TheConstants.{MOST_INPUT};
 ghost use Rattle.jo_grammar.specs.Cuts.{AreWithin};
-ghost use Rattle.jo_parse.specs.CutScripts.{sections_in};
-ghost use Rattle.jo_grammar.specs.Sets.{AreRead, IsLexed, is_nothing};
-ghost use Rattle.jo_parse.specs.Parsed.{IsFault};
-ghost use Rattle.jo_parse.specs.Stages.{IsLexFault, lists_of};
+ghost use Rattle.jo_parse.specs.inner.CutScripts.{sections_in};
+ghost use Rattle.jo_grammar.specs.Sets.{AreRead, is_nothing};
+ghost use Rattle.jo_parse.specs.inner.Stages.{IsLexFault, IsTokensFault, lists_of};
 
-use crate::cut::cut;
-use jo_lex::{ParseFault, Refusal, RefusalKind, Token, tokens};
 use crate::section::Section;
+use jo_lex::{ParseFault, Refusal, RefusalKind, Token, tokens};
 use jo_value::Texts;
 use std::alloc::{AllocError, Global};
 
@@ -33,7 +31,7 @@ fn token_lists(
 {
     let mut lists = Vec::new(alloc);
     for section in sections {
-        let found = tokens(alloc, section.text, section.start, texts)?;
+        let found = tokens(alloc, section.input, section.start, texts)?;
         lists.push(found).map_err(AllocError::from)?;
     }
     Ok(lists)
@@ -46,15 +44,16 @@ fn is_nothing(lists: &[Vec<Token>]) -> bool
     lists.len() == 1 && lists[0].len() == 1
 }
 
-/// The tokens of the scripts, of which there is one at least.
-pub(crate) fn lex(alloc: Global, bytes: &[u8]) -> Result<Lexed, ParseFault>
-    requires { length bytes.now ≤ MOST_INPUT }
-    ensures ok { IfOk result (λ lexed. IsLexed bytes.now (lists_of lexed.lists.items) lexed.texts) }
-    ensures refused { IfErr result (IsFault bytes.now) }
+/// The tokens of the scripts, which are not nothing.
+pub(crate) fn lex(alloc: Global, sections: &[Section<'_>]) -> Result<Lexed, ParseFault>
+    requires { AreWithin MOST_INPUT (sections_in sections.now) }
+    ensures ok { IfOk result (λ lexed.
+        AreRead [] (sections_in sections.now) (lists_of lexed.lists.items) lexed.texts) }
+    ensures something { IfOk result (λ lexed. is_nothing (lists_of lexed.lists.items) ≡ false) }
+    ensures refused { IfErr result (IsTokensFault (sections_in sections.now)) }
 {
-    let sections = cut(alloc, bytes)?;
     let mut texts = Texts::new(alloc);
-    let lists = token_lists(alloc, sections.as_slice(), &mut texts)?;
+    let lists = token_lists(alloc, sections, &mut texts)?;
     if is_nothing(lists.as_slice()) {
         return Err(ParseFault::Refused(Refusal {
             kind: RefusalKind::NoScript,

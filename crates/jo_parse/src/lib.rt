@@ -1,13 +1,13 @@
 //! From the bytes of a set of scripts to its trees and the table of its texts, or to the first refusal.
 #![tactic(auto)]
 
-mod cut;
 mod lex;
 mod named;
 mod section;
 mod reader;
 mod set;
 mod spell;
+mod utf8;
 
 pub use jo_lex::{ParseFault, Refusal, RefusalKind};
 pub use reader::parse_set;

@@ -2,7 +2,7 @@
 ghost use Rattle.std.specs.Prelude.{◌≡◌, [], map, IfErr, OnOk};
 ghost use Rattle.jo_grammar.specs.Sets.{faults_of_all};
 ghost use Rattle.jo_tree.specs.ScriptViews.{script_tree};
-ghost use Rattle.jo_parse.specs.Stages.{IsFirstNameFault};
+ghost use Rattle.jo_parse.specs.inner.Stages.{IsFirstNameFault};
 
 use jo_names::judge;
 use jo_lex::ParseFault;

@@ -3,26 +3,34 @@ ghost use Rattle.std.specs.Prelude.{◌≤◌, length, List, IfErr, IfOk};
 ghost use Rattle.jo_value.specs.declared.limits.TheConstants.{MOST_INPUT};
 ghost use Rattle.jo_value.specs.Texts.{Table};
 ghost use Rattle.jo_lex.specs.declared.refusal.Refusal.{Refusal};
+ghost use Rattle.jo_lex.specs.Faults.{Refuses};
 ghost use Rattle.jo_tree.specs.Trees.{Items};
 ghost use Rattle.jo_grammar.specs.Sets.{IsRefusal, IsAcceptedSet};
-ghost use Rattle.jo_parse.specs.Parsed.{Gives, IsFault, Refuses, trees_of};
+ghost use Rattle.jo_parse.specs.Parsed.{Gives, IsFault, trees_of};
 
+use crate::lex::lex;
 use crate::named::judge_all;
+use crate::section::cut;
 use crate::set::ScriptSet;
 use crate::spell::spell;
+use crate::utf8::decode;
 use jo_lex::ParseFault;
 use std::alloc::Global;
 
+// Five stages, each over the whole set.
 fn read(alloc: Global, bytes: &[u8]) -> Result<ScriptSet, ParseFault>
     requires { length bytes.now ≤ MOST_INPUT }
     ensures ok { IfOk result (λ set. IsAcceptedSet bytes.now (trees_of set) set.1) }
     ensures refused { IfErr result (IsFault bytes.now) }
 {
-    let spelled = spell(alloc, bytes)?;
-    judge_all(alloc, spelled.scripts.as_slice())?;
+    let input = decode(bytes)?;
+    let sections = cut(alloc, input)?;
+    let lexed = lex(alloc, sections.as_slice())?;
+    let scripts = spell(alloc, lexed.lists.as_slice(), &lexed.texts)?;
+    judge_all(alloc, scripts.as_slice())?;
     Ok(ScriptSet {
-        scripts: spelled.scripts,
-        texts: spelled.texts,
+        scripts,
+        texts: lexed.texts,
     })
 }
 

@@ -2,38 +2,29 @@
 ghost use Rattle.std.specs.Prelude.{◌≡◌, ◌+◌, ◌<◌, ◌≤◌, [], ◌∷◌, ◌++◌, length, take, drop, IfErr, IfOk, OnOk};
 ghost use Rattle.std.specs.Str.{IsCharBoundary};
 ghost use Rattle.jo_value.specs.declared.limits.TheConstants.{MOST_INPUT, MOST_SCRIPTS};
-ghost use Rattle.jo_lex.specs.Classes.{EndsWith};
+ghost use Rattle.jo_lex.specs.Characters.{EndsWith};
 ghost use Rattle.jo_grammar.specs.Cuts.{AreWithin, is_separator, lines_of, sections_of};
-ghost use Rattle.jo_parse.specs.CutScripts.{IsCutFault, one_too_many, sections_in, section_of};
+ghost use Rattle.jo_parse.specs.inner.CutScripts.{IsCutFault, one_too_many, sections_in, section_of};
 
-use jo_lex::{ParseFault, Refusal, RefusalKind};
+use jo_lex::{ParseFault, Refusal, RefusalKind, front};
 use jo_value::MOST_SCRIPTS;
 use std::alloc::{AllocError, Global};
 
 /// A script of a set, and how many bytes stand before it.
 #[derive(Clone, Copy)]
-pub struct Section<'a> {
-    pub start: u32,
-    pub text: &'a str,
+pub(crate) struct Section<'a> {
+    pub(crate) start: u32,
+    pub(crate) input: &'a str,
 }
 
-// What stands before the end of a text.
-fn front<'a>(text: &'a str, end: &str) -> &'a str
-    requires { EndsWith text.now end.now }
-    ensures { text.now ≡ result.now ++ end.now }
-{
-    let (front, _) = text.split_at(text.len() - end.len());
-    front
-}
-
-// Where the first line of a text ends, after its line feed. Most lines are short, so it goes byte by byte.
-fn line_end(text: &str) -> usize
-    requires { 0 < length text.now }
-    ensures boundary { IsCharBoundary text.now result }
+// Where the first line of an input ends, after its line feed. Most lines are short, so it goes byte by byte.
+fn line_end(input: &str) -> usize
+    requires { 0 < length input.now }
+    ensures boundary { IsCharBoundary input.now result }
     ensures some { 0 < result }
-    ensures lines { lines_of text.now ≡ take result text.now ∷ lines_of (drop result text.now) }
+    ensures lines { lines_of input.now ≡ take result input.now ∷ lines_of (drop result input.now) }
 {
-    let bytes = text.as_bytes();
+    let bytes = input.as_bytes();
     let mut end = 0;
     while end < bytes.len() {
         if bytes[end] == b'\n' {
@@ -44,14 +35,14 @@ fn line_end(text: &str) -> usize
     end
 }
 
-// The first line of a text, with its line feed, and what follows it.
-fn first_line(text: &str) -> (&str, &str)
-    requires { 0 < length text.now }
-    ensures lines { lines_of text.now ≡ result.0.now ∷ lines_of result.1.now }
-    ensures parts { text.now ≡ result.0.now ++ result.1.now }
-    ensures shorter { length result.1.now < length text.now }
+// The first line of an input, with its line feed, and what follows it.
+fn first_line(input: &str) -> (&str, &str)
+    requires { 0 < length input.now }
+    ensures lines { lines_of input.now ≡ result.0.now ∷ lines_of result.1.now }
+    ensures parts { input.now ≡ result.0.now ++ result.1.now }
+    ensures shorter { length result.1.now < length input.now }
 {
-    text.split_at(line_end(text))
+    input.split_at(line_end(input))
 }
 
 fn is_separator(line: &str) -> bool
@@ -60,17 +51,17 @@ fn is_separator(line: &str) -> bool
     line == "%%\n" || line == "%%\r\n" || line == "%%" || line == "%%\r"
 }
 
-// The script that goes from there to before the end, in a text that they end.
-fn script<'a>(text: &str, from: &'a str, end: &str) -> Section<'a>
-    requires limit { length text.now ≤ MOST_INPUT }
-    requires from { EndsWith text.now from.now }
+// The script that goes from there to before the end, in an input that they end.
+fn script<'a>(input: &str, from: &'a str, end: &str) -> Section<'a>
+    requires limit { length input.now ≤ MOST_INPUT }
+    requires from { EndsWith input.now from.now }
     requires end { EndsWith from.now end.now }
-    ensures start { result.start + length from.now ≡ length text.now }
-    ensures text { from.now ≡ result.text.now ++ end.now }
+    ensures start { result.start + length from.now ≡ length input.now }
+    ensures input { from.now ≡ result.input.now ++ end.now }
 {
     Section {
-        start: (text.len() - from.len()) as u32,
-        text: front(from, end),
+        start: (input.len() - from.len()) as u32,
+        input: front(from, end),
     }
 }
 
@@ -85,30 +76,30 @@ fn add<'a>(parts: &mut Vec<Section<'a>>, part: Section<'a>) -> Result<(), AllocE
 
 // The refusal at the separator that ends this script.
 fn too_many(last: Section<'_>) -> ParseFault
-    requires { last.start + length last.text.now ≤ MOST_INPUT }
+    requires { last.start + length last.input.now ≤ MOST_INPUT }
     ensures { result ≡ one_too_many (section_of last.entry) }
 {
     ParseFault::Refused(Refusal {
         kind: RefusalKind::TooManyScripts,
-        place: last.start + last.text.len() as u32,
+        place: last.start + last.input.len() as u32,
     })
 }
 
 /// The scripts of a set, which lines of `%%` separate; or the first separator that would begin a script too many.
-pub fn sections<'a>(alloc: Global, text: &'a str) -> Result<Vec<Section<'a>>, ParseFault>
-    requires { length text.now ≤ MOST_INPUT }
-    ensures ok { IfOk result (λ parts. sections_in parts.items ≡ sections_of text.now) }
-    ensures within { IfOk result (λ parts. AreWithin (length text.now) (sections_in parts.items)) }
+pub(crate) fn cut<'a>(alloc: Global, input: &'a str) -> Result<Vec<Section<'a>>, ParseFault>
+    requires { length input.now ≤ MOST_INPUT }
+    ensures ok { IfOk result (λ parts. sections_in parts.items ≡ sections_of input.now) }
+    ensures within { IfOk result (λ parts. AreWithin (length input.now) (sections_in parts.items)) }
     ensures few { IfOk result (λ parts. length parts.items ≤ MOST_SCRIPTS) }
-    ensures refused { IfErr result (IsCutFault text.now) }
+    ensures refused { IfErr result (IsCutFault input.now) }
 {
     let mut parts = Vec::new(alloc);
-    let mut from = text;
-    let mut rest = text;
+    let mut from = input;
+    let mut rest = input;
     while !rest.is_empty() {
         let (line, after) = first_line(rest);
         if is_separator(line) {
-            let part = script(text, from, rest);
+            let part = script(input, from, rest);
             if parts.len() + 1 == MOST_SCRIPTS {
                 return Err(too_many(part));
             }
@@ -117,6 +108,6 @@ pub fn sections<'a>(alloc: Global, text: &'a str) -> Result<Vec<Section<'a>>, Pa
         }
         rest = after;
     }
-    add(&mut parts, script(text, from, rest))?;
+    add(&mut parts, script(input, from, rest))?;
     Ok(parts)
 }

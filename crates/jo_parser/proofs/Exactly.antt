@@ -7,8 +7,9 @@ use Rattle.jo_lex.specs.declared.refusal.ParseFault.TheVariants.{Memory, Refused
 use Rattle.jo_grammar.specs.declared.terminal.Terminal.{Terminal}
 use Rattle.jo_grammar.specs.Refusals.{Language, Fault, IsAccepted}
 use Rattle.jo_grammar.proofs.Accepted.{Answers}
-use Rattle.jo_grammar.specs.TokenRefusals.{Gives, IsFault, Refuses, refusal_of}
-use Rattle.jo_parser.specs.Answered.{Answered}
+use Rattle.jo_lex.specs.Faults.{Refuses}
+use Rattle.jo_grammar.specs.TokenRefusals.{Gives, IsFault, refusal_of}
+use Rattle.jo_parser.specs.inner.Answered.{Answered}
 use Rattle.jo_value.specs.declared.limits.TheConstants.{MOST_OPEN}
 
 module _ {X A : Type 0} (view : X → A) (L : Language A) (tokens : List Token) (ts : List Terminal) (w : Result A (Fault × List Terminal)) where

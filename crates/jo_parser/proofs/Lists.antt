@@ -9,7 +9,7 @@ use Rattle.jo_tree.specs.declared.expr.Prop.{Prop}
 use Rattle.jo_tree.specs.Trees.{Tree, no_accesses, member, chain, prop, field, index, link}
 use Rattle.jo_tree.specs.Views.{expr_tree, chain_tree, accesses_list, links_list, props_list}
 use Rattle.jo_tree.proofs.Shapes.{accesses_with-key}
-use Rattle.jo_grammar.specs.Read.{with_field, with_index, with_link, with_prop, member_of, chain_of}
+use Rattle.jo_grammar.specs.inner.Read.{with_field, with_index, with_link, with_prop, member_of, chain_of}
 
 pub accesses-with-name : (xs : List Access) (n : Name) → accesses_list (xs ++ a.Name n ∷ []) ≡ with_field (accesses_list xs) n
 accesses-with-name [] n = refl

@@ -7,12 +7,12 @@ use Rattle.jo_tree.specs.Trees.{Tree, Statement, choose, when, either}
 use Rattle.jo_tree.specs.ScriptViews.{if_tree}
 use Rattle.jo_grammar.specs.declared.terminal.Terminal.{Terminal}
 use Rattle.jo_grammar.specs.declared.terminal.Terminal.TheVariants as t
-use Rattle.jo_grammar.specs.Read.{Reading, Below, and_then, expect, next, open_at, sees, choice}
-use Rattle.jo_grammar.specs.ReadStatements.{Within, else_after}
-use Rattle.jo_parser.specs.Outcomes.{Makes, Reads, choices}
+use Rattle.jo_grammar.specs.inner.Read.{Reading, Below, and_then, expect, next, open_at, sees, choice}
+use Rattle.jo_grammar.specs.inner.ReadStatements.{Within, else_after}
+use Rattle.jo_parser.specs.inner.Outcomes.{Makes, Reads, choices}
 use Rattle.jo_parser.specs.declared.stop.Stop.{Stop}
 use Rattle.jo_parser.specs.declared.stop.Stop.TheVariants as s
-use Rattle.jo_parser.specs.ScriptOutcomes.{else_at}
+use Rattle.jo_parser.specs.inner.ScriptOutcomes.{else_at}
 
 -- ---- a choice
 

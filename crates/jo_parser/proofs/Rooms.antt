@@ -4,7 +4,7 @@ use Rattle.std.proofs.lemmas.Bool.{ne_eqb}
 use Rattle.jo_tree.specs.Trees.{Tree}
 use Rattle.std.proofs.Common.{◌≡◌, ℕ, zero, suc, ◌+◌, ◌-◌, ◌<◌, ◌≤◌, ap, ◌∙◌, arith, refl, List, Bool, true, false, Ok, Err}
 use Rattle.jo_grammar.specs.declared.terminal.Terminal.{Terminal}
-use Rattle.jo_grammar.specs.Read.{Reading, open_at, under, read, next, assignment, only_member, chains, prefixed, enter, sees}
+use Rattle.jo_grammar.specs.inner.Read.{Reading, open_at, under, read, next, assignment, only_member, chains, prefixed, enter, sees}
 use Rattle.jo_grammar.specs.Refusals.{unexpected}
 
 pub one_more : {X : Type 0} {x : X} (f : ℕ → X) (n at : ℕ) → at < n → x ≡ f (n - at) → x ≡ f (suc (n - (at + 1)))

@@ -7,10 +7,10 @@ use Rattle.jo_tree.specs.Trees.{Items, declare, perform}
 use Rattle.jo_tree.specs.ScriptViews.{let_list, statement_tree, items_list}
 use Rattle.jo_tree.proofs.Shapes.{shapes}
 use Rattle.jo_tree.proofs.ScriptShapes.{script_shapes, bindings_list-push, trees_list-push}
-use Rattle.jo_grammar.specs.Read.{Reading, open_at, peek, next}
-use Rattle.jo_grammar.specs.ReadStatements.{read_statement, statement_at, with_item, item_at, item_then, script_from}
+use Rattle.jo_grammar.specs.inner.Read.{Reading, open_at, peek, next}
+use Rattle.jo_grammar.specs.inner.ReadStatements.{read_statement, statement_at, with_item, item_at, item_then, script_from}
 use Rattle.jo_grammar.specs.Refusals.{unexpected}
-use Rattle.jo_parser.specs.ScriptOutcomes.{within, item_view}
+use Rattle.jo_parser.specs.inner.ScriptOutcomes.{within, item_view}
 use Rattle.jo_parser.proofs.Parts.{else-in-parts}
 use Rattle.jo_parser.proofs.Rooms.{open-less}
 

@@ -13,7 +13,7 @@ use Rattle.jo_tree.specs.declared.expr.Chain.TheVariants as h
 use Rattle.jo_tree.specs.declared.expr.Unary.TheVariants as u
 use Rattle.jo_tree.specs.declared.expr.Primary.TheVariants as p
 use Rattle.jo_tree.specs.Views.{expr_tree, chain_tree, unary_tree, primary_tree}
-use Rattle.jo_grammar.specs.Read.{is_member, is_target}
+use Rattle.jo_grammar.specs.inner.Read.{is_member, is_target}
 
 pub chain-no-target : (x : Chain) → ((y : Unary) → x ≡ h.Unary y → ⊥) → is_target (chain_tree x) ≡ false
 unfolding expr_tree

@@ -1,3 +1,1 @@
-pub mod Outcomes
-pub mod ScriptOutcomes
-pub mod Answered
+pub mod inner

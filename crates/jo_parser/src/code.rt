@@ -1,6 +1,6 @@
 // Kinds of terminal, by number.
 ghost use Rattle.std.specs.Prelude.{◌≡◌};
-ghost use Rattle.jo_grammar.specs.Read as spec;
+ghost use Rattle.jo_grammar.specs.inner.Read as spec;
 
 use jo_grammar::Terminal;
 use jo_lex::Punct;

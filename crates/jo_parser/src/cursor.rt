@@ -1,7 +1,7 @@
 // The terminals that are left.
 ghost use Rattle.std.specs.Prelude.{◌≡◌, length};
-ghost use Rattle.jo_grammar.specs.Read as spec;
-ghost use Rattle.jo_parser.specs.Outcomes.{Reads};
+ghost use Rattle.jo_grammar.specs.inner.Read as spec;
+ghost use Rattle.jo_parser.specs.inner.Outcomes.{Reads};
 ghost use Rattle.jo_grammar.specs.declared.terminal.Terminal.TheVariants as t;
 
 use crate::code::code;
@@ -70,7 +70,7 @@ impl<'a> Cursor<'a> {
         code(self.peek()) == code(Terminal::Keyword(keyword))
     }
 
-    #[tactic(auto, unfolding(jo_grammar::specs::Read::expect))]
+    #[tactic(auto, unfolding(jo_grammar::specs::inner::Read::expect))]
     pub(crate) fn expect(&mut self, punct: Punct) -> Result<(), Stop>
         ensures { Reads (λ x. x) (spec.expect (t.Punct punct) self.old) result self.new }
     {
@@ -93,7 +93,7 @@ impl<'a> Cursor<'a> {
     }
 
     /// Takes this bracket, which opens a construct, and says how many more may be open in it.
-    #[tactic(auto, unfolding(jo_grammar::specs::Read::enter))]
+    #[tactic(auto, unfolding(jo_grammar::specs::inner::Read::enter))]
     pub(crate) fn enter(&mut self, punct: Punct, room: u8) -> Result<u8, Stop>
         ensures { Reads (λ x. x) (spec.enter (t.Punct punct) room self.old) result self.new }
     {
@@ -103,7 +103,7 @@ impl<'a> Cursor<'a> {
         self.open(room)
     }
 
-    #[tactic(auto, unfolding(jo_grammar::specs::Read::name))]
+    #[tactic(auto, unfolding(jo_grammar::specs::inner::Read::name))]
     pub(crate) fn name(&mut self) -> Result<Name, Stop>
         ensures { Reads (λ x. x) (spec.name self.old) result self.new }
     {
@@ -114,7 +114,7 @@ impl<'a> Cursor<'a> {
         Ok(name)
     }
 
-    #[tactic(auto, unfolding(jo_grammar::specs::Read::key))]
+    #[tactic(auto, unfolding(jo_grammar::specs::inner::Read::key))]
     pub(crate) fn key(&mut self) -> Result<PropKey, Stop>
         ensures { Reads (λ x. x) (spec.key self.old) result self.new }
     {

@@ -1,6 +1,6 @@
 // What a terminal does in an expression.
 ghost use Rattle.std.specs.Prelude.{◌≡◌, true, false, MatchOption};
-ghost use Rattle.jo_grammar.specs.Read as spec;
+ghost use Rattle.jo_grammar.specs.inner.Read as spec;
 ghost use Rattle.jo_grammar.specs.declared.terminal.Terminal.TheVariants as t;
 
 use jo_grammar::Terminal;

@@ -1,11 +1,12 @@
 // The script that a list of tokens is.
 ghost use Rattle.std.specs.Prelude.{IfErr, IfOk, List};
-ghost use Rattle.jo_grammar.specs.ReadStatements.{whole_script};
+ghost use Rattle.jo_grammar.specs.inner.ReadStatements.{whole_script};
 ghost use Rattle.jo_grammar.specs.Refusals.{Fault, IsAccepted, IsRefused};
 ghost use Rattle.jo_grammar.specs.Statements.{IsScript};
 ghost use Rattle.jo_grammar.specs.declared.terminal.Terminal.{Terminal};
-ghost use Rattle.jo_grammar.specs.TokenRefusals.{Gives, IsFault, Refuses, refusal_of};
-ghost use Rattle.jo_parser.specs.Answered.{Answered};
+ghost use Rattle.jo_lex.specs.Faults.{Refuses};
+ghost use Rattle.jo_grammar.specs.TokenRefusals.{Gives, IsFault, refusal_of};
+ghost use Rattle.jo_parser.specs.inner.Answered.{Answered};
 ghost use Rattle.jo_grammar.specs.Terminals.{terminals_of};
 ghost use Rattle.jo_tree.specs.ScriptViews.{script_tree};
 ghost use Rattle.jo_tree.specs.Trees.{Items};

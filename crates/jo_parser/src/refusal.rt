@@ -2,7 +2,7 @@
 ghost use Rattle.std.specs.Prelude.{◌≡◌, ◌-◌, length};
 ghost use Rattle.jo_lex.specs.declared.refusal.ParseFault.TheVariants as fault;
 ghost use Rattle.jo_grammar.specs.TokenRefusals.{start_at};
-ghost use Rattle.jo_parser.specs.Answered.{fault_at};
+ghost use Rattle.jo_parser.specs.inner.Answered.{fault_at};
 
 use crate::stop::Stop;
 use jo_grammar::Terminal;

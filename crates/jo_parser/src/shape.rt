@@ -1,7 +1,7 @@
 // Trees from their parts.
 ghost use Rattle.std.specs.Prelude.{◌≡◌, true, false, IfOk, IfErr};
-ghost use Rattle.jo_grammar.specs.Read as spec;
-ghost use Rattle.jo_parser.specs.Outcomes.{Makes};
+ghost use Rattle.jo_grammar.specs.inner.Read as spec;
+ghost use Rattle.jo_parser.specs.inner.Outcomes.{Makes};
 ghost use Rattle.jo_tree.specs.Views.{accesses_list, chain_tree, cond_tree, links_list, postfix_tree, primary_tree, target_tree, unary_tree};
 
 use crate::stop::Stop;

@@ -2,7 +2,7 @@
 use Rattle.std.proofs.Common.{◌≡◌, ℕ, List, [], ◌∷◌, ◌++◌, drop, codes, refl, sym, ap, ◌∙◌}
 use Rattle.std.proofs.lemmas.List.Concat.{flat_map-append}
 use Rattle.jo_model.specs.Printed.{joined}
-use Rattle.jo_render.specs.Fragments.{each_after}
+use Rattle.jo_render.specs.inner.Fragments.{each_after}
 
 drop-each_after : (texts : List (List ℕ)) → drop 2 (each_after (codes ", ") texts) ≡ joined (codes ", ") texts
 drop-each_after [] = refl

@@ -1,7 +1,7 @@
 // The properties of an object: its indexes in rising order, and then its names in order of creation.
 ghost use Rattle.std.specs.Prelude.{◌≡◌, ◌++◌, OnOk, codes, drop, map};
 ghost use Rattle.jo_model.specs.Rendered.{property_value_text, element_text, name_text};
-ghost use Rattle.jo_render.specs.Fragments.{each_after, properties_text};
+ghost use Rattle.jo_render.specs.inner.Fragments.{each_after, properties_text};
 
 use crate::quoted::add_quoted;
 use crate::value::add_value;

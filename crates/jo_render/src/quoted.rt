@@ -2,7 +2,7 @@
 ghost use Rattle.std.specs.Prelude.{◌≡◌, ◌++◌, OnOk};
 ghost use Rattle.std.specs.List.{flat_map};
 ghost use Rattle.jo_model.specs.Rendered.{quoted};
-ghost use Rattle.jo_render.specs.Fragments.{escaped};
+ghost use Rattle.jo_render.specs.inner.Fragments.{escaped};
 
 use std::alloc::AllocError;
 

@@ -1,7 +1,7 @@
 // The text of values in a line. Each call puts it at the end of a text.
 ghost use Rattle.std.specs.Prelude.{◌≡◌, ◌++◌, OnOk, codes, map};
 ghost use Rattle.jo_model.specs.Printed.{object_text, value_text, line_of};
-ghost use Rattle.jo_render.specs.Fragments.{each_after};
+ghost use Rattle.jo_render.specs.inner.Fragments.{each_after};
 
 use jo_value::{ObjId, Texts, Value};
 use std::alloc::{AllocError, Global};

@@ -35,7 +35,7 @@ use Rattle.jo_form.specs.Forms.{number_in, with_front, is_word, shared_name, sha
 use Rattle.jo_form.specs.declared.form.Step.{Step}
 use Rattle.jo_form.specs.declared.form.Step.TheVariants as step
 use Rattle.jo_walk.specs.Alone.{IsRunAlone}
-use Rattle.jo_walk.specs.Walks.{Stage, value_in, values_in, after_call, after_line, after_step, after_steps, unless_ended}
+use Rattle.jo_walk.specs.inner.Walks.{Stage, value_in, values_in, after_call, after_line, after_step, after_steps, unless_ended}
 
 inside : {A : Type 0} (x y : A) → Some x ≡ Some y → x ≡ y
 inside x y e = (cond_some true x y e).1

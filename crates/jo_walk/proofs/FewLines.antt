@@ -18,7 +18,7 @@ use Rattle.jo_model.specs.Printed.{value_text, line_of}
 use Rattle.jo_form.specs.declared.form.Step.{Step}
 use Rattle.jo_form.specs.declared.form.Step.TheVariants as step
 use Rattle.jo_walk.specs.Small.{IsNumber, PutNumbers, count_of_printed, PrintSomething, AreSmall}
-use Rattle.jo_walk.specs.Walks.{Stage, value_in, values_in, after_line, after_steps, unless_ended}
+use Rattle.jo_walk.specs.inner.Walks.{Stage, value_in, values_in, after_line, after_steps, unless_ended}
 use Rattle.jo_walk.proofs.FewNames.{heap_with, made, after_call, few_names_end}
 
 -- ---- values

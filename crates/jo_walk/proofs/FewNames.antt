@@ -28,7 +28,7 @@ use Rattle.jo_model.specs.Printed.{line_of}
 use Rattle.jo_form.specs.Forms.{names_in, with_number, each_once, has_few_names}
 use Rattle.jo_form.specs.declared.form.Step.{Step}
 use Rattle.jo_form.specs.declared.form.Step.TheVariants as step
-use Rattle.jo_walk.specs.Walks.{Stage, values_in, after_call, after_line, after_steps, unless_ended}
+use Rattle.jo_walk.specs.inner.Walks.{Stage, values_in, after_call, after_line, after_steps, unless_ended}
 
 -- ---- lists of numbers
 

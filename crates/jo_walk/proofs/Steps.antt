@@ -15,7 +15,7 @@ use Rattle.jo_model.specs.Objects.{has_property, is_full_for, with_value, with_p
 use Rattle.jo_model.specs.Heaps.{Heap, shared, with_object, IsBorn}
 use Rattle.jo_model.specs.One.{one}
 use Rattle.jo_form.specs.declared.form.Step.{Step}
-use Rattle.jo_walk.specs.Walks.{Stage, IsReady, value_in, values_in, after_step, after_steps, unless_ended}
+use Rattle.jo_walk.specs.inner.Walks.{Stage, IsReady, value_in, values_in, after_step, after_steps, unless_ended}
 
 -- ---- the shared object and the pass are there
 

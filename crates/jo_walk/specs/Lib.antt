@@ -1,3 +1,3 @@
 pub mod Alone
-pub mod Walks
 pub mod Small
+pub mod inner

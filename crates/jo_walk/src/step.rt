@@ -2,7 +2,7 @@
 ghost use Rattle.std.specs.Prelude.{◌≡◌, IfOk, OnOk};
 ghost use Rattle.jo_model.specs.Heaps.{Heap};
 ghost use Rattle.jo_model.specs.Printed.{line_of};
-ghost use Rattle.jo_walk.specs.Walks.{IsReady, after_step, put_shared, after_line, value_in, values_in, ending_of};
+ghost use Rattle.jo_walk.specs.inner.Walks.{IsReady, after_step, put_shared, after_line, value_in, values_in, ending_of};
 
 use jo_form::Step;
 use jo_model::{Call, Outcome, PlainHeap, Reply};

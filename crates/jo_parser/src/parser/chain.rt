@@ -1,8 +1,8 @@
 // Operands, with the operators that join them and that stand before them.
 ghost use Rattle.std.specs.Prelude.{◌≤◌, ◌-◌, true, length};
-ghost use Rattle.jo_grammar.specs.Read as spec;
-ghost use Rattle.jo_grammar.specs.Read.{under};
-ghost use Rattle.jo_parser.specs.Outcomes.{Reads};
+ghost use Rattle.jo_grammar.specs.inner.Read as spec;
+ghost use Rattle.jo_grammar.specs.inner.Read.{under};
+ghost use Rattle.jo_parser.specs.inner.Outcomes.{Reads};
 ghost use Rattle.jo_tree.specs.Trees.{no_links};
 ghost use Rattle.jo_tree.specs.Views.{chain_tree, links_list, member_tree, unary_tree};
 
@@ -19,7 +19,7 @@ const UNARY_LEVEL: u8 = 9;
 impl<'a> Parser<'a> {
     /// Operands between operators of one level.
     #[cycle(parser)]
-    #[tactic(auto, using(crate::proofs::Rules::reading), unfolding(jo_grammar::specs::Read::chains))]
+    #[tactic(auto, using(crate::proofs::Rules::reading), unfolding(jo_grammar::specs::inner::Read::chains))]
     pub(super) fn chain(&mut self, room: u8, ins: bool, level: u8) -> Result<Chain, Stop>
         requires binary { 3 ≤ level }
         requires bound { level ≤ 9 }
@@ -34,7 +34,7 @@ impl<'a> Parser<'a> {
     }
 
     #[cycle(parser)]
-    #[tactic(auto, using(crate::proofs::Rules::reading), unfolding(jo_grammar::specs::Read::links_from))]
+    #[tactic(auto, using(crate::proofs::Rules::reading), unfolding(jo_grammar::specs::inner::Read::links_from))]
     fn links(&mut self, room: u8, ins: bool, level: u8) -> Result<Items<Link>, Stop>
         requires binary { 3 ≤ level }
         requires bound { level ≤ 8 }
@@ -68,7 +68,7 @@ impl<'a> Parser<'a> {
     }
 
     #[cycle(parser)]
-    #[tactic(auto, using(crate::proofs::Rules::reading), unfolding(jo_grammar::specs::Read::prefixed))]
+    #[tactic(auto, using(crate::proofs::Rules::reading), unfolding(jo_grammar::specs::inner::Read::prefixed))]
     fn unary(&mut self, room: u8) -> Result<Unary, Stop>
         ensures { Reads unary_tree (spec.read room true 9 self.old.tokens) result self.new.tokens }
     {
@@ -85,7 +85,7 @@ impl<'a> Parser<'a> {
     }
 
     #[cycle(parser)]
-    #[tactic(auto, using(crate::proofs::Rules::reading), unfolding(jo_grammar::specs::Read::only_member))]
+    #[tactic(auto, using(crate::proofs::Rules::reading), unfolding(jo_grammar::specs::inner::Read::only_member))]
     fn member(&mut self, room: u8) -> Result<Boxed<Member>, Stop>
         ensures { Reads member_tree (spec.read room true 10 self.old.tokens) result self.new.tokens }
     {

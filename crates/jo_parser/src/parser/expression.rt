@@ -1,7 +1,7 @@
 // Expressions, with assignments and choices.
-ghost use Rattle.jo_grammar.specs.Read as spec;
-ghost use Rattle.jo_grammar.specs.Read.{under};
-ghost use Rattle.jo_parser.specs.Outcomes.{Reads, assigned, choice_trees, choices};
+ghost use Rattle.jo_grammar.specs.inner.Read as spec;
+ghost use Rattle.jo_grammar.specs.inner.Read.{under};
+ghost use Rattle.jo_parser.specs.inner.Outcomes.{Reads, assigned, choice_trees, choices};
 ghost use Rattle.jo_tree.specs.Views.{assign_tree, cond_tree, expr_tree, target_tree};
 
 use crate::operator::{assign_of, rank};
@@ -20,7 +20,7 @@ const FIRST_LEVEL: u8 = 3;
 
 impl<'a> Parser<'a> {
     #[cycle(parser)]
-    #[tactic(auto, using(crate::proofs::Rules::reading), unfolding(jo_grammar::specs::Read::assignment))]
+    #[tactic(auto, using(crate::proofs::Rules::reading), unfolding(jo_grammar::specs::inner::Read::assignment))]
     pub(crate) fn expression(&mut self, room: u8, ins: bool) -> Result<Expr, Stop>
         ensures { Reads expr_tree (spec.read room ins 1 self.old.tokens) result self.new.tokens }
     {
@@ -45,7 +45,7 @@ impl<'a> Parser<'a> {
 
     /// An expression and the punctuator that ends it.
     #[cycle(parser)]
-    #[tactic(auto, using(crate::proofs::Rules::reading), unfolding(jo_grammar::specs::Read::ended))]
+    #[tactic(auto, using(crate::proofs::Rules::reading), unfolding(jo_grammar::specs::inner::Read::ended))]
     pub(crate) fn ended(&mut self, inner: u8, punct: Punct) -> Result<Boxed<Expr>, Stop>
         ensures { Reads expr_tree (spec.ended (spec.read inner) punct self.old.tokens) result self.new.tokens }
     {
@@ -72,7 +72,7 @@ impl<'a> Parser<'a> {
     }
 
     #[cycle(parser)]
-    #[tactic(auto, using(crate::proofs::Rules::reading), unfolding(jo_grammar::specs::Read::condition))]
+    #[tactic(auto, using(crate::proofs::Rules::reading), unfolding(jo_grammar::specs::inner::Read::condition))]
     fn condition(&mut self, room: u8, ins: bool) -> Result<Cond, Stop>
         ensures { Reads cond_tree (spec.condition room (under room) ins self.old.tokens) result self.new.tokens }
     {

@@ -1,7 +1,7 @@
 // Object literals.
 ghost use Rattle.std.specs.Prelude.{length};
-ghost use Rattle.jo_grammar.specs.Read as spec;
-ghost use Rattle.jo_parser.specs.Outcomes.{Reads, prop_tree};
+ghost use Rattle.jo_grammar.specs.inner.Read as spec;
+ghost use Rattle.jo_parser.specs.inner.Outcomes.{Reads, prop_tree};
 ghost use Rattle.jo_tree.specs.Views.{object_tree, props_list};
 
 use crate::parser::Parser;
@@ -13,7 +13,7 @@ use sqlite_items::Items;
 impl<'a> Parser<'a> {
     /// An object after its brace.
     #[cycle(parser)]
-    #[tactic(auto, using(crate::proofs::Rules::reading), unfolding(jo_grammar::specs::Read::object_after))]
+    #[tactic(auto, using(crate::proofs::Rules::reading), unfolding(jo_grammar::specs::inner::Read::object_after))]
     pub(super) fn object(&mut self, inner: u8) -> Result<Object, Stop>
         ensures { Reads object_tree (spec.object_after (spec.read inner) self.old.tokens) result self.new.tokens }
     {
@@ -31,7 +31,7 @@ impl<'a> Parser<'a> {
 
     /// The rest of an object after a property.
     #[cycle(parser)]
-    #[tactic(auto, using(crate::proofs::Rules::reading), unfolding(jo_grammar::specs::Read::props_from))]
+    #[tactic(auto, using(crate::proofs::Rules::reading), unfolding(jo_grammar::specs::inner::Read::props_from))]
     fn properties(&mut self, inner: u8, mut props: Items<Prop>) -> Result<Object, Stop>
         ensures { Reads object_tree (spec.props_from (spec.read inner) (length self.old.tokens) (props_list props) self.old.tokens) result self.new.tokens }
     {
@@ -57,7 +57,7 @@ impl<'a> Parser<'a> {
     }
 
     #[cycle(parser)]
-    #[tactic(auto, using(crate::proofs::Rules::reading), unfolding(jo_grammar::specs::Read::property))]
+    #[tactic(auto, using(crate::proofs::Rules::reading), unfolding(jo_grammar::specs::inner::Read::property))]
     fn property(&mut self, inner: u8) -> Result<Prop, Stop>
         ensures { Reads prop_tree (spec.property (spec.read inner) self.old.tokens) result self.new.tokens }
     {

@@ -1,8 +1,8 @@
 // Properties, by what is accessed.
 ghost use Rattle.std.specs.Prelude.{length};
-ghost use Rattle.jo_grammar.specs.Read as spec;
-ghost use Rattle.jo_grammar.specs.Read.{under};
-ghost use Rattle.jo_parser.specs.Outcomes.{Reads};
+ghost use Rattle.jo_grammar.specs.inner.Read as spec;
+ghost use Rattle.jo_grammar.specs.inner.Read.{under};
+ghost use Rattle.jo_parser.specs.inner.Outcomes.{Reads};
 ghost use Rattle.jo_tree.specs.Trees.{no_accesses};
 ghost use Rattle.jo_tree.specs.Views.{accesses_list, expr_tree, postfix_tree};
 
@@ -15,7 +15,7 @@ use sqlite_items::{Boxed, Items};
 
 impl<'a> Parser<'a> {
     #[cycle(parser)]
-    #[tactic(auto, using(crate::proofs::Rules::reading), unfolding(jo_grammar::specs::Read::postfix))]
+    #[tactic(auto, using(crate::proofs::Rules::reading), unfolding(jo_grammar::specs::inner::Read::postfix))]
     pub(super) fn postfix(&mut self, room: u8) -> Result<Postfix, Stop>
         ensures { Reads postfix_tree (spec.postfix room (under room) self.old.tokens) result self.new.tokens }
     {
@@ -25,7 +25,7 @@ impl<'a> Parser<'a> {
     }
 
     #[cycle(parser)]
-    #[tactic(auto, using(crate::proofs::Rules::reading), unfolding(jo_grammar::specs::Read::accesses_from))]
+    #[tactic(auto, using(crate::proofs::Rules::reading), unfolding(jo_grammar::specs::inner::Read::accesses_from))]
     fn accesses(&mut self, room: u8) -> Result<Items<Access>, Stop>
         ensures { Reads accesses_list (spec.accesses_from room (under room) (length self.old.tokens) no_accesses self.old.tokens) result self.new.tokens }
     {
@@ -45,7 +45,7 @@ impl<'a> Parser<'a> {
 
     /// A key in brackets.
     #[cycle(parser)]
-    #[tactic(auto, using(crate::proofs::Rules::reading), unfolding(jo_grammar::specs::Read::index_at))]
+    #[tactic(auto, using(crate::proofs::Rules::reading), unfolding(jo_grammar::specs::inner::Read::index_at))]
     fn index(&mut self, room: u8) -> Result<Boxed<Expr>, Stop>
         ensures { Reads expr_tree (spec.index_at room (under room) self.old.tokens) result self.new.tokens }
     {

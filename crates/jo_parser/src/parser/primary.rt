@@ -1,7 +1,7 @@
 // What no operator takes apart.
-ghost use Rattle.jo_grammar.specs.Read as spec;
-ghost use Rattle.jo_grammar.specs.Read.{under};
-ghost use Rattle.jo_parser.specs.Outcomes.{Reads};
+ghost use Rattle.jo_grammar.specs.inner.Read as spec;
+ghost use Rattle.jo_grammar.specs.inner.Read.{under};
+ghost use Rattle.jo_parser.specs.inner.Outcomes.{Reads};
 ghost use Rattle.jo_tree.specs.Views.{cas_tree, primary_tree};
 ghost use Rattle.jo_tree.specs.declared.keyword.Keyword.TheVariants as kw;
 
@@ -14,7 +14,7 @@ use sqlite_items::Boxed;
 
 impl<'a> Parser<'a> {
     #[cycle(parser)]
-    #[tactic(auto, using(crate::proofs::Rules::reading), unfolding(jo_grammar::specs::Read::primary))]
+    #[tactic(auto, using(crate::proofs::Rules::reading), unfolding(jo_grammar::specs::inner::Read::primary))]
     pub(super) fn primary(&mut self, room: u8) -> Result<Primary, Stop>
         ensures { Reads primary_tree (spec.primary room (under room) self.old.tokens) result self.new.tokens }
     {
@@ -69,7 +69,7 @@ impl<'a> Parser<'a> {
 
     /// The arguments of `cas` after their bracket.
     #[cycle(parser)]
-    #[tactic(auto, using(crate::proofs::Rules::reading), unfolding(jo_grammar::specs::Read::cas_after))]
+    #[tactic(auto, using(crate::proofs::Rules::reading), unfolding(jo_grammar::specs::inner::Read::cas_after))]
     fn arguments(&mut self, inner: u8) -> Result<Cas, Stop>
         ensures { Reads cas_tree (spec.cas_after (spec.read inner) self.old.tokens) result self.new.tokens }
     {
@@ -86,7 +86,7 @@ impl<'a> Parser<'a> {
     }
 
     #[cycle(parser)]
-    #[tactic(auto, using(crate::proofs::Rules::reading), unfolding(jo_grammar::specs::Read::group_after))]
+    #[tactic(auto, using(crate::proofs::Rules::reading), unfolding(jo_grammar::specs::inner::Read::group_after))]
     fn bracket(&mut self, room: u8, punct: Punct) -> Result<Primary, Stop>
         ensures { Reads primary_tree (spec.bracket_at room (under room) punct self.old.tokens) result self.new.tokens }
     {

@@ -1,8 +1,8 @@
 // Statements with statements within.
-ghost use Rattle.jo_grammar.specs.ReadStatements as spec;
-ghost use Rattle.jo_grammar.specs.ReadStatements.{read_statement};
-ghost use Rattle.jo_parser.specs.Outcomes.{Reads};
-ghost use Rattle.jo_parser.specs.ScriptOutcomes.{else_at};
+ghost use Rattle.jo_grammar.specs.inner.ReadStatements as spec;
+ghost use Rattle.jo_grammar.specs.inner.ReadStatements.{read_statement};
+ghost use Rattle.jo_parser.specs.inner.Outcomes.{Reads};
+ghost use Rattle.jo_parser.specs.inner.ScriptOutcomes.{else_at};
 ghost use Rattle.jo_tree.specs.ScriptViews.{optional_statement, statement_tree};
 
 use crate::parser::Parser;
@@ -14,7 +14,7 @@ use sqlite_items::Boxed;
 impl<'a> Parser<'a> {
     /// An `if` after its word.
     #[cycle(statement)]
-    #[tactic(auto, using(crate::proofs::ScriptRules::script_reading), unfolding(jo_grammar::specs::ReadStatements::if_after))]
+    #[tactic(auto, using(crate::proofs::ScriptRules::script_reading), unfolding(jo_grammar::specs::inner::ReadStatements::if_after))]
     pub(crate) fn branch(&mut self, room: u8, loops: bool) -> Result<Statement, Stop>
         ensures { Reads statement_tree (spec.if_after room (read_statement room) loops self.old.tokens) result self.new.tokens }
     {
@@ -44,7 +44,7 @@ impl<'a> Parser<'a> {
 
     /// A `while` after its word.
     #[cycle(statement)]
-    #[tactic(auto, using(crate::proofs::ScriptRules::script_reading), unfolding(jo_grammar::specs::ReadStatements::while_after))]
+    #[tactic(auto, using(crate::proofs::ScriptRules::script_reading), unfolding(jo_grammar::specs::inner::ReadStatements::while_after))]
     pub(crate) fn while_loop(&mut self, room: u8) -> Result<Statement, Stop>
         ensures { Reads statement_tree (spec.while_after room (read_statement room) self.old.tokens) result self.new.tokens }
     {
@@ -56,7 +56,7 @@ impl<'a> Parser<'a> {
 
     /// A `for` after its word.
     #[cycle(statement)]
-    #[tactic(auto, using(crate::proofs::ScriptRules::script_reading), unfolding(jo_grammar::specs::ReadStatements::for_after))]
+    #[tactic(auto, using(crate::proofs::ScriptRules::script_reading), unfolding(jo_grammar::specs::inner::ReadStatements::for_after))]
     pub(crate) fn for_loop(&mut self, room: u8) -> Result<Statement, Stop>
         ensures { Reads statement_tree (spec.for_after room (read_statement room) self.old.tokens) result self.new.tokens }
     {

@@ -1,7 +1,7 @@
 // Declarations.
 ghost use Rattle.std.specs.Prelude.{length};
-ghost use Rattle.jo_grammar.specs.ReadStatements as spec;
-ghost use Rattle.jo_parser.specs.Outcomes.{Reads};
+ghost use Rattle.jo_grammar.specs.inner.ReadStatements as spec;
+ghost use Rattle.jo_parser.specs.inner.Outcomes.{Reads};
 ghost use Rattle.jo_tree.specs.ScriptViews.{binding_tree, bindings_list, let_list, option_tree};
 
 use crate::parser::Parser;
@@ -12,7 +12,7 @@ use jo_tree::{Binding, Expr, Ident, Let};
 use sqlite_items::{Boxed, Items};
 
 impl<'a> Parser<'a> {
-    #[tactic(auto, unfolding(jo_grammar::specs::ReadStatements::ident))]
+    #[tactic(auto, unfolding(jo_grammar::specs::inner::ReadStatements::ident))]
     fn ident(&mut self) -> Result<Ident, Stop>
         ensures { Reads (λ x. x) (spec.ident self.old.tokens) result self.new.tokens }
     {
@@ -23,7 +23,7 @@ impl<'a> Parser<'a> {
         Ok(ident)
     }
 
-    #[tactic(auto, using(crate::proofs::ScriptRules::script_reading), unfolding(jo_grammar::specs::ReadStatements::initial_at))]
+    #[tactic(auto, using(crate::proofs::ScriptRules::script_reading), unfolding(jo_grammar::specs::inner::ReadStatements::initial_at))]
     fn initial(&mut self, room: u8, ins: bool) -> Result<Option<Boxed<Expr>>, Stop>
         ensures { Reads option_tree (spec.initial_at room ins self.old.tokens) result self.new.tokens }
     {
@@ -34,7 +34,7 @@ impl<'a> Parser<'a> {
         Ok(Some(self.nested(inner, ins)?))
     }
 
-    #[tactic(auto, using(crate::proofs::ScriptRules::script_reading), unfolding(jo_grammar::specs::ReadStatements::binding_at))]
+    #[tactic(auto, using(crate::proofs::ScriptRules::script_reading), unfolding(jo_grammar::specs::inner::ReadStatements::binding_at))]
     fn binding(&mut self, room: u8, ins: bool) -> Result<Binding, Stop>
         ensures { Reads binding_tree (spec.binding_at room ins self.old.tokens) result self.new.tokens }
     {
@@ -44,7 +44,7 @@ impl<'a> Parser<'a> {
     }
 
     /// The rest of a declaration after a binding.
-    #[tactic(auto, using(crate::proofs::ScriptRules::script_reading), unfolding(jo_grammar::specs::ReadStatements::bindings_from))]
+    #[tactic(auto, using(crate::proofs::ScriptRules::script_reading), unfolding(jo_grammar::specs::inner::ReadStatements::bindings_from))]
     fn bindings(
         &mut self,
         room: u8,
@@ -65,7 +65,7 @@ impl<'a> Parser<'a> {
     }
 
     /// A declaration after its `let`.
-    #[tactic(auto, using(crate::proofs::ScriptRules::script_reading), unfolding(jo_grammar::specs::ReadStatements::let_after))]
+    #[tactic(auto, using(crate::proofs::ScriptRules::script_reading), unfolding(jo_grammar::specs::inner::ReadStatements::let_after))]
     pub(crate) fn declaration(&mut self, room: u8, ins: bool) -> Result<Let, Stop>
         ensures { Reads let_list (spec.let_after room ins self.old.tokens) result self.new.tokens }
     {

@@ -1,6 +1,6 @@
 // What stands in the brackets of statements.
-ghost use Rattle.jo_grammar.specs.ReadStatements as spec;
-ghost use Rattle.jo_parser.specs.Outcomes.{Reads};
+ghost use Rattle.jo_grammar.specs.inner.ReadStatements as spec;
+ghost use Rattle.jo_parser.specs.inner.Outcomes.{Reads};
 ghost use Rattle.jo_tree.specs.ScriptViews.{head_tree, option_tree};
 ghost use Rattle.jo_tree.specs.Views.{expr_tree};
 
@@ -12,7 +12,7 @@ use sqlite_items::Boxed;
 
 impl<'a> Parser<'a> {
     /// An expression in round brackets.
-    #[tactic(auto, using(crate::proofs::ScriptRules::script_reading), unfolding(jo_grammar::specs::ReadStatements::in_brackets_at))]
+    #[tactic(auto, using(crate::proofs::ScriptRules::script_reading), unfolding(jo_grammar::specs::inner::ReadStatements::in_brackets_at))]
     pub(crate) fn in_brackets(&mut self, room: u8) -> Result<Boxed<Expr>, Stop>
         ensures { Reads expr_tree (spec.in_brackets_at room self.old.tokens) result self.new.tokens }
     {
@@ -21,7 +21,7 @@ impl<'a> Parser<'a> {
     }
 
     /// An expression or none, and the token that ends it.
-    #[tactic(auto, using(crate::proofs::ScriptRules::script_reading), unfolding(jo_grammar::specs::ReadStatements::optional_ended))]
+    #[tactic(auto, using(crate::proofs::ScriptRules::script_reading), unfolding(jo_grammar::specs::inner::ReadStatements::optional_ended))]
     pub(crate) fn optional(
         &mut self,
         room: u8,
@@ -40,7 +40,7 @@ impl<'a> Parser<'a> {
     }
 
     /// The first part of the head of a `for`, where no `in` stands outside brackets.
-    #[tactic(auto, using(crate::proofs::ScriptRules::script_reading), unfolding(jo_grammar::specs::ReadStatements::head_at))]
+    #[tactic(auto, using(crate::proofs::ScriptRules::script_reading), unfolding(jo_grammar::specs::inner::ReadStatements::head_at))]
     pub(crate) fn head(&mut self, room: u8) -> Result<ForHead, Stop>
         ensures { Reads head_tree (spec.head_at room self.old.tokens) result self.new.tokens }
     {

@@ -1,9 +1,9 @@
 // Blocks and scripts.
 ghost use Rattle.std.specs.Prelude.{length};
-ghost use Rattle.jo_grammar.specs.ReadStatements as spec;
-ghost use Rattle.jo_grammar.specs.ReadStatements.{read_statement};
-ghost use Rattle.jo_parser.specs.Outcomes.{Reads};
-ghost use Rattle.jo_parser.specs.ScriptOutcomes.{ReadsAll, item_view};
+ghost use Rattle.jo_grammar.specs.inner.ReadStatements as spec;
+ghost use Rattle.jo_grammar.specs.inner.ReadStatements.{read_statement};
+ghost use Rattle.jo_parser.specs.inner.Outcomes.{Reads};
+ghost use Rattle.jo_parser.specs.inner.ScriptOutcomes.{ReadsAll, item_view};
 ghost use Rattle.jo_tree.specs.ScriptViews.{items_list, script_tree, statement_tree};
 ghost use Rattle.jo_tree.specs.Trees.{no_items};
 
@@ -15,7 +15,7 @@ use sqlite_items::Items;
 
 impl<'a> Parser<'a> {
     #[cycle(statement)]
-    #[tactic(auto, using(crate::proofs::ScriptRules::script_reading), unfolding(jo_grammar::specs::ReadStatements::item_at))]
+    #[tactic(auto, using(crate::proofs::ScriptRules::script_reading), unfolding(jo_grammar::specs::inner::ReadStatements::item_at))]
     fn item(&mut self, room: u8, loops: bool) -> Result<Item, Stop>
         ensures { Reads item_view (spec.item_at room (read_statement room loops) self.old.tokens) result self.new.tokens }
     {
@@ -28,7 +28,7 @@ impl<'a> Parser<'a> {
 
     /// The items of a block, and its closing brace.
     #[cycle(statement)]
-    #[tactic(auto, using(crate::proofs::ScriptRules::script_reading), unfolding(jo_grammar::specs::ReadStatements::block_from))]
+    #[tactic(auto, using(crate::proofs::ScriptRules::script_reading), unfolding(jo_grammar::specs::inner::ReadStatements::block_from))]
     fn items(&mut self, room: u8, loops: bool) -> Result<Items<Item>, Stop>
         ensures { Reads items_list (spec.block_from room (read_statement room loops) (length self.old.tokens) no_items self.old.tokens) result self.new.tokens }
     {
@@ -45,7 +45,7 @@ impl<'a> Parser<'a> {
 
     /// A block after its brace.
     #[cycle(statement)]
-    #[tactic(auto, using(crate::proofs::ScriptRules::script_reading), unfolding(jo_grammar::specs::ReadStatements::block_after))]
+    #[tactic(auto, using(crate::proofs::ScriptRules::script_reading), unfolding(jo_grammar::specs::inner::ReadStatements::block_after))]
     pub(crate) fn block(&mut self, room: u8, loops: bool) -> Result<Statement, Stop>
         ensures { Reads statement_tree (spec.block_after room (read_statement room loops) self.old.tokens) result self.new.tokens }
     {
@@ -54,7 +54,7 @@ impl<'a> Parser<'a> {
     }
 
     /// All that is left, as a script.
-    #[tactic(auto, using(crate::proofs::ScriptRules::script_reading, crate::proofs::ScriptRules::script_turns), unfolding(jo_grammar::specs::ReadStatements::whole_script))]
+    #[tactic(auto, using(crate::proofs::ScriptRules::script_reading, crate::proofs::ScriptRules::script_turns), unfolding(jo_grammar::specs::inner::ReadStatements::whole_script))]
     pub(crate) fn script(&mut self, limit: u8) -> Result<Script, Stop>
         ensures { ReadsAll script_tree (spec.whole_script limit self.old.tokens) result self.new.tokens }
     {

@@ -1,8 +1,8 @@
 // Statements that have no statement within.
 ghost use Rattle.std.specs.Prelude.{length};
-ghost use Rattle.jo_grammar.specs.ReadStatements as spec;
-ghost use Rattle.jo_parser.specs.Outcomes.{Reads};
-ghost use Rattle.jo_parser.specs.ScriptOutcomes.{leaving};
+ghost use Rattle.jo_grammar.specs.inner.ReadStatements as spec;
+ghost use Rattle.jo_parser.specs.inner.Outcomes.{Reads};
+ghost use Rattle.jo_parser.specs.inner.ScriptOutcomes.{leaving};
 ghost use Rattle.jo_tree.specs.ScriptViews.{statement_tree, trees_list};
 
 use crate::parser::Parser;
@@ -13,7 +13,7 @@ use sqlite_items::Items;
 
 impl<'a> Parser<'a> {
     /// The rest of the arguments after one.
-    #[tactic(auto, using(crate::proofs::ScriptRules::script_reading), unfolding(jo_grammar::specs::ReadStatements::arguments_from))]
+    #[tactic(auto, using(crate::proofs::ScriptRules::script_reading), unfolding(jo_grammar::specs::inner::ReadStatements::arguments_from))]
     fn more_arguments(&mut self, room: u8, mut found: Items<Expr>) -> Result<Items<Expr>, Stop>
         ensures { Reads trees_list (spec.arguments_from room (length self.old.tokens) (trees_list found) self.old.tokens) result self.new.tokens }
     {
@@ -29,7 +29,7 @@ impl<'a> Parser<'a> {
     }
 
     /// Arguments after their bracket.
-    #[tactic(auto, using(crate::proofs::ScriptRules::script_reading), unfolding(jo_grammar::specs::ReadStatements::arguments_after))]
+    #[tactic(auto, using(crate::proofs::ScriptRules::script_reading), unfolding(jo_grammar::specs::inner::ReadStatements::arguments_after))]
     fn printed(&mut self, room: u8) -> Result<Items<Expr>, Stop>
         ensures { Reads trees_list (spec.arguments_after room self.old.tokens) result self.new.tokens }
     {
@@ -43,7 +43,7 @@ impl<'a> Parser<'a> {
     }
 
     /// A `print` after its word.
-    #[tactic(auto, using(crate::proofs::ScriptRules::script_reading), unfolding(jo_grammar::specs::ReadStatements::print_after))]
+    #[tactic(auto, using(crate::proofs::ScriptRules::script_reading), unfolding(jo_grammar::specs::inner::ReadStatements::print_after))]
     pub(crate) fn print(&mut self, room: u8) -> Result<Statement, Stop>
         ensures { Reads statement_tree (spec.print_after room self.old.tokens) result self.new.tokens }
     {
@@ -54,7 +54,7 @@ impl<'a> Parser<'a> {
     }
 
     /// A `printNames` after its word.
-    #[tactic(auto, using(crate::proofs::ScriptRules::script_reading), unfolding(jo_grammar::specs::ReadStatements::print_names_after))]
+    #[tactic(auto, using(crate::proofs::ScriptRules::script_reading), unfolding(jo_grammar::specs::inner::ReadStatements::print_names_after))]
     pub(crate) fn print_names(&mut self, room: u8) -> Result<Statement, Stop>
         ensures { Reads statement_tree (spec.print_names_after room self.old.tokens) result self.new.tokens }
     {
@@ -64,7 +64,7 @@ impl<'a> Parser<'a> {
     }
 
     /// An expression as a statement.
-    #[tactic(auto, using(crate::proofs::ScriptRules::script_reading), unfolding(jo_grammar::specs::ReadStatements::run_at))]
+    #[tactic(auto, using(crate::proofs::ScriptRules::script_reading), unfolding(jo_grammar::specs::inner::ReadStatements::run_at))]
     pub(crate) fn run(&mut self, room: u8) -> Result<Statement, Stop>
         ensures { Reads statement_tree (spec.run_at room self.old.tokens) result self.new.tokens }
     {
@@ -74,7 +74,7 @@ impl<'a> Parser<'a> {
     }
 
     /// A `break` or a `continue`, which stands only in the body of a loop.
-    #[tactic(auto, using(crate::proofs::ScriptRules::script_reading), unfolding(jo_grammar::specs::ReadStatements::leave_at))]
+    #[tactic(auto, using(crate::proofs::ScriptRules::script_reading), unfolding(jo_grammar::specs::inner::ReadStatements::leave_at))]
     pub(crate) fn leave(&mut self, keyword: Keyword, loops: bool) -> Result<Statement, Stop>
         ensures { Reads statement_tree (spec.leave_at (leaving keyword) loops self.old.tokens) result self.new.tokens }
     {

@@ -1,8 +1,8 @@
 // The statement at the front.
-ghost use Rattle.jo_grammar.specs.ReadStatements as spec;
-ghost use Rattle.jo_grammar.specs.ReadStatements.{read_statement};
-ghost use Rattle.jo_parser.specs.Outcomes.{Reads};
-ghost use Rattle.jo_parser.specs.ScriptOutcomes.{within};
+ghost use Rattle.jo_grammar.specs.inner.ReadStatements as spec;
+ghost use Rattle.jo_grammar.specs.inner.ReadStatements.{read_statement};
+ghost use Rattle.jo_parser.specs.inner.Outcomes.{Reads};
+ghost use Rattle.jo_parser.specs.inner.ScriptOutcomes.{within};
 ghost use Rattle.jo_tree.specs.ScriptViews.{statement_tree};
 
 use crate::parser::Parser;

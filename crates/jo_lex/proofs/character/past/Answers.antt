@@ -3,7 +3,7 @@ use Rattle.std.proofs.lemmas.Grind.{common_steps}
 use Rattle.std.specs.Prelude.{encode_utf8}
 use Rattle.std.specs.Str.{chars}
 use Rattle.jo_lex.specs.Characters.{drop_while}
-use Rattle.jo_lex.specs.Classes.{test_of}
+use Rattle.jo_lex.specs.inner.Classes.{test_of}
 use Rattle.jo_lex.proofs.Texts.{drop_while-yes}
 use Rattle.jo_lex.proofs.character.past.Goals as goal
 

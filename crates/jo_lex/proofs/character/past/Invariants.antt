@@ -3,7 +3,8 @@ use Rattle.std.specs.Str.{chars}
 use denote.Shadow.{shadow}
 use denote.Text.{Utf8}
 use Rattle.jo_lex.specs.Characters.{drop_while}
-use Rattle.jo_lex.specs.Classes.{test_of, EndsWith}
+use Rattle.jo_lex.specs.inner.Classes.{test_of}
+use Rattle.jo_lex.specs.Characters.{EndsWith}
 use Rattle.jo_lex.proofs.character.past.Given as goal
 
 abbrev pub invariant-loop-c : goal.invariant-loop-c

@@ -1,7 +1,7 @@
 use Rattle.std.proofs.Common.{◌≡◌, ◌≤◌, ◌<◌, ◌∷◌, [], true, length, drop, None, slice_index_or, refl, sym, ap, ◌∙◌, arith}
 use Rattle.std.specs.Str.{chars}
 use Rattle.jo_lex.specs.Punctuators.{longest}
-use Rattle.jo_lex.specs.Views.{entries_of, is_falling}
+use Rattle.jo_lex.specs.inner.Views.{entries_of, is_falling}
 use Rattle.jo_lex.proofs.Punctuation.{entries_head, falling_parts, longest-first}
 use Rattle.jo_lex.proofs.operator.lookup.Goals as goal
 

@@ -1,7 +1,7 @@
 use Rattle.std.proofs.Common.{◌≡◌, ℕ, true, length}
 use Rattle.std.specs.Str.{chars}
 use Rattle.jo_lex.specs.Punctuators.{longest}
-use Rattle.jo_lex.specs.Views.{entries_of, is_falling}
+use Rattle.jo_lex.specs.inner.Views.{entries_of, is_falling}
 use Rattle.jo_lex.proofs.operator.lookup.Given as goal
 
 abbrev pub invariant-loop-table : goal.invariant-loop-table

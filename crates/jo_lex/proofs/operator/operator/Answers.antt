@@ -1,7 +1,7 @@
 use Rattle.std.proofs.Common.{ap, ◌∙◌, arith}
 use Rattle.std.proofs.lemmas.Grind.{common_steps}
 use Rattle.std.specs.Str.{chars}
-use Rattle.jo_lex.specs.Views.{is_falling}
+use Rattle.jo_lex.specs.inner.Views.{is_falling}
 use Rattle.jo_lex.proofs.Groups.{entries_for-falling, punctuator_of-first}
 use Rattle.jo_lex.proofs.operator.operator.Goals as goal
 

@@ -2,7 +2,7 @@ use Rattle.std.proofs.Common.{sym, ap, arith}
 use Rattle.std.proofs.lemmas.Bool.Decides.{nat_tests}
 use Rattle.jo_lex.proofs.Groups.{entries_for-other}
 use Rattle.jo_lex.specs.Punctuators.{table}
-use Rattle.jo_lex.specs.Views.{entries_for}
+use Rattle.jo_lex.specs.inner.Views.{entries_for}
 use Rattle.jo_lex.proofs.punct.beginning_with.Goals as goal
 
 pub returns-in-123 : goal.returns-in-123

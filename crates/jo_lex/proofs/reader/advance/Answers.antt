@@ -1,7 +1,7 @@
 use Rattle.std.proofs.Common.{◌≡◌, sym, ap, ◌∙◌, rules}
 use Rattle.std.specs.Str.{chars, IsUtf8}
 use Rattle.jo_lex.specs.Pieces.{piece, gap, lexeme}
-use Rattle.jo_lex.specs.Views.{piece_of, lexeme_of}
+use Rattle.jo_lex.specs.inner.Views.{piece_of, lexeme_of}
 use Rattle.jo_lex.proofs.Reading.{next-gap, next-token}
 use Rattle.jo_lex.proofs.reader.advance.Goals as goal
 

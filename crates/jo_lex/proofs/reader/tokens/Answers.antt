@@ -4,7 +4,7 @@ use Rattle.std.proofs.lemmas.List.{nil_from_length}
 use Rattle.std.proofs.lemmas.Str.{chars-nil}
 use Rattle.std.specs.Str.{chars}
 use Rattle.jo_lex.specs.Characters.{size}
-use Rattle.jo_lex.specs.Steps.{at}
+use Rattle.jo_lex.specs.inner.Steps.{at}
 use Rattle.jo_lex.specs.Tokens.{start, end_token}
 use Rattle.jo_lex.proofs.Reading.{size-chars, reached-start, reached-more, fails, reads}
 use Rattle.jo_lex.proofs.reader.tokens.Goals as goal

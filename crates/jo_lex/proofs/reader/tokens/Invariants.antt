@@ -2,7 +2,7 @@ use Rattle.std.proofs.Common.{◌≡◌, ℕ, ◌+◌, ◌-◌, ◌≤◌, lengt
 use denote.Shadow.{shadow}
 use denote.Text.{Utf8}
 use Rattle.std.specs.Str.{chars}
-use Rattle.jo_lex.specs.Steps.{at}
+use Rattle.jo_lex.specs.inner.Steps.{at}
 use Rattle.jo_lex.specs.Tokens.{start, reached}
 use Rattle.jo_lex.proofs.reader.tokens.Given as goal
 

@@ -1,7 +1,7 @@
 use Rattle.std.proofs.Common.{subst}
 use Rattle.jo_tree.specs.ScriptViews.{items_list, script_tree}
 use Rattle.jo_grammar.specs.Declarations.{faults}
-use Rattle.jo_names.specs.Blocks.{Judges}
+use Rattle.jo_names.specs.inner.Blocks.{Judges}
 use Rattle.jo_names.proofs.Scripts.{script-judged, declared_ok, declared_err}
 use Rattle.jo_names.proofs.script.judge.Goals as goal
 

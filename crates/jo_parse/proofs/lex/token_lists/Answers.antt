@@ -1,6 +1,6 @@
 use Rattle.std.proofs.Common.{◌≡◌, [], ◌∷◌, ◌++◌, arith}
 use Rattle.std.proofs.lemmas.Grind.{common_steps}
-use Rattle.jo_parse.specs.CutScripts.{sections_in}
+use Rattle.jo_parse.specs.inner.CutScripts.{sections_in}
 use Rattle.jo_parse.proofs.Turns.{read_turn, read_end}
 use Rattle.jo_parse.proofs.lex.token_lists.Goals as goal
 

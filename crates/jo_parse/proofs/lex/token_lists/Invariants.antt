@@ -1,6 +1,6 @@
 use Rattle.std.proofs.Common.{drop}
-use Rattle.jo_parse.specs.CutScripts.{sections_in}
-use Rattle.jo_parse.specs.Stages.{lists_of}
+use Rattle.jo_parse.specs.inner.CutScripts.{sections_in}
+use Rattle.jo_parse.specs.inner.Stages.{lists_of}
 use Rattle.jo_parse.proofs.Turns.{Reads}
 use Rattle.jo_parse.proofs.lex.token_lists.Given as goal
 

@@ -1,9 +1,9 @@
 use Rattle.std.proofs.Common.{subst, ◌∙◌}
 use Rattle.jo_tree.specs.ScriptViews.{script_tree}
-use Rattle.jo_grammar.specs.ReadStatements.{whole_script}
+use Rattle.jo_grammar.specs.inner.ReadStatements.{whole_script}
 use Rattle.jo_grammar.specs.Statements.{IsScript}
 use Rattle.jo_grammar.proofs.ScriptExact.{script-answers, accepted-script, refused-script}
-use Rattle.jo_parser.specs.Answered.{Answered}
+use Rattle.jo_parser.specs.inner.Answered.{Answered}
 use Rattle.jo_grammar.specs.Terminals.{terminals_of}
 use Rattle.jo_value.specs.declared.limits.TheConstants.{MOST_OPEN}
 use Rattle.jo_parser.proofs.Exactly.{exactly-ok, exactly-refused, exactly-complete, exactly-first}

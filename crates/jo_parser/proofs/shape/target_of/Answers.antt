@@ -1,7 +1,7 @@
 use Rattle.std.proofs.Common.{◌∙◌, ap, sym}
 use Rattle.jo_tree.specs.Views.{chain_tree, cond_tree, postfix_tree, unary_tree}
 use Rattle.jo_tree.proofs.Shapes.{target_tree-member, cond_tree-chain, chain_tree-unary, unary_tree-postfix, postfix_tree-primary, postfix_tree-member}
-use Rattle.jo_grammar.specs.Read.{is_target}
+use Rattle.jo_grammar.specs.inner.Read.{is_target}
 use Rattle.jo_parser.proofs.Targets.{chain-no-target, unary-no-target, primary-no-target}
 use Rattle.jo_parser.proofs.shape.target_of.Goals as goal
 

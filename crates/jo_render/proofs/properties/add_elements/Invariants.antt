@@ -1,5 +1,5 @@
 use Rattle.std.proofs.Common.{◌≡◌, ◌++◌, codes, map, take}
-use Rattle.jo_render.specs.Fragments.{each_after}
+use Rattle.jo_render.specs.inner.Fragments.{each_after}
 use Rattle.jo_model.specs.Rendered.{element_text}
 use Rattle.jo_render.proofs.properties.add_elements.Given as goal
 

@@ -1,7 +1,7 @@
 use Rattle.std.proofs.Common.{◌≡◌, Some, [], ap}
 use Rattle.jo_model.specs.Heaps.{heap_at_start}
 use Rattle.jo_model.specs.declared.call.Outcome.TheVariants.{Done}
-use Rattle.jo_walk.specs.Walks.{after_steps}
+use Rattle.jo_walk.specs.inner.Walks.{after_steps}
 use Rattle.jo_walk.proofs.Steps.{ends_at, ends_done}
 use Rattle.jo_walk.proofs.Ends.{run_alone}
 use Rattle.jo_walk.proofs.FewNames.{few_names_end}

@@ -1,6 +1,6 @@
 use Rattle.std.proofs.Common.{◌≡◌, [], drop}
 use Rattle.jo_model.specs.Heaps.{heap_at_start}
-use Rattle.jo_walk.specs.Walks.{IsReady, after_steps}
+use Rattle.jo_walk.specs.inner.Walks.{IsReady, after_steps}
 use Rattle.jo_walk.proofs.form.walk.Given as goal
 
 abbrev pub invariant-loop-each : goal.invariant-loop-each

@@ -1,5 +1,5 @@
 use Rattle.std.proofs.Common.{◌≡◌, take}
-use Rattle.jo_walk.specs.Walks.{values_in}
+use Rattle.jo_walk.specs.inner.Walks.{values_in}
 use Rattle.jo_walk.proofs.step.values.Given as goal
 
 abbrev pub invariant-loop-name : goal.invariant-loop-name

@@ -1,5 +1,5 @@
 use Rattle.std.proofs.Common.{drop}
-use Rattle.jo_names.specs.Blocks.{IsAlike, with_names}
+use Rattle.jo_names.specs.inner.Blocks.{IsAlike, with_names}
 use Rattle.jo_tree.specs.Blocks.{names_of}
 use Rattle.jo_tree.specs.ScriptViews.{bindings_list}
 use Rattle.jo_names.proofs.block.Block.declare_all.Given as goal

@@ -1,5 +1,5 @@
 use Rattle.std.proofs.Common.{drop}
-use Rattle.jo_names.specs.Blocks.{IsAlike, with_names}
+use Rattle.jo_names.specs.inner.Blocks.{IsAlike, with_names}
 use Rattle.jo_grammar.specs.Declarations.{at_beginning}
 use Rattle.jo_tree.specs.Blocks.{declared_in}
 use Rattle.jo_tree.specs.ScriptViews.{items_list}

@@ -2,7 +2,7 @@ use Rattle.std.proofs.Common.{rules, ◌∙◌, ◌∷◌, ◌+◌, ap, drop, re
 use Rattle.jo_tree.specs.Blocks.{declared_by, declared_in}
 use Rattle.jo_tree.specs.ScriptViews.{head_tree, items_list}
 use Rattle.jo_grammar.specs.Declarations.{at_beginning, at_end, faults_of_head, faults_of_items}
-use Rattle.jo_names.specs.Blocks.{all_of, answer_to, round_faults}
+use Rattle.jo_names.specs.inner.Blocks.{all_of, answer_to, round_faults}
 use Rattle.jo_names.proofs.Judging.{judged_left, judged_same, judged_then, left_on}
 use Rattle.jo_names.proofs.Stated.{enters, items-entered, round-entered}
 use Rattle.jo_names.proofs.Steps.{items-at, items-on}

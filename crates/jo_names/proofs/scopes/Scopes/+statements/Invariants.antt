@@ -1,7 +1,7 @@
 use Rattle.std.proofs.Common.{◌≡◌, drop}
 use Rattle.jo_grammar.specs.Declarations.{faults_of_items}
 use Rattle.jo_tree.specs.ScriptViews.{items_list}
-use Rattle.jo_names.specs.Blocks.{answer_to}
+use Rattle.jo_names.specs.inner.Blocks.{answer_to}
 use Rattle.jo_names.proofs.scopes.Scopes.+statements.Given as goal
 
 abbrev pub invariant-items-loop-item : goal.invariant-items-loop-item

@@ -1,5 +1,5 @@
 use Rattle.std.proofs.Common.{rules, ◌∙◌, sym, ap}
-use Rattle.jo_names.specs.Blocks.{all_of, answer_to}
+use Rattle.jo_names.specs.inner.Blocks.{all_of, answer_to}
 use Rattle.jo_grammar.specs.Declarations.{faults_of_uses, uses_of}
 use Rattle.jo_tree.specs.Views.{expr_tree}
 use Rattle.jo_names.proofs.Turns.{links-turn, props-turn, accesses-turn, after_ok, after_err}

@@ -1,5 +1,5 @@
 use Rattle.std.proofs.Common.{◌≡◌, drop}
-use Rattle.jo_names.specs.Blocks.{all_of, answer_to}
+use Rattle.jo_names.specs.inner.Blocks.{all_of, answer_to}
 use Rattle.jo_grammar.specs.Declarations.{faults_of_uses, uses_of_accesses, uses_of_links, uses_of_props}
 use Rattle.jo_tree.specs.Views.{accesses_list, links_list, props_list}
 use Rattle.jo_names.proofs.scopes.Scopes.+uses.Given as goal

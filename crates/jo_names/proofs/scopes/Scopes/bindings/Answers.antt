@@ -1,5 +1,5 @@
 use Rattle.std.proofs.Common.{rules, ◌∙◌, ap, drop, ◌+◌}
-use Rattle.jo_names.specs.Blocks.{answer_to}
+use Rattle.jo_names.specs.inner.Blocks.{answer_to}
 use Rattle.jo_names.proofs.Judging.{judged_left, left_on}
 use Rattle.jo_names.proofs.Steps.{bindings-at, bindings-on, bindings-alike}
 use Rattle.jo_names.proofs.scopes.Scopes.bindings.Goals as goal

@@ -1,7 +1,7 @@
 use Rattle.std.proofs.Common.{◌≡◌, drop}
 use Rattle.jo_grammar.specs.Declarations.{scope_after_all, faults_of_bindings}
 use Rattle.jo_tree.specs.ScriptViews.{bindings_list}
-use Rattle.jo_names.specs.Blocks.{IsAlike, answer_to}
+use Rattle.jo_names.specs.inner.Blocks.{IsAlike, answer_to}
 use Rattle.jo_names.proofs.scopes.Scopes.bindings.Given as goal
 
 abbrev pub invariant-loop-binding : goal.invariant-loop-binding

@@ -2,7 +2,7 @@ use Rattle.std.proofs.Common.{ap}
 use Rattle.jo_tree.specs.Blocks.{names_of}
 use Rattle.jo_tree.specs.ScriptViews.{bindings_list}
 use Rattle.jo_grammar.specs.Declarations.{at_beginning, faults_of_bindings}
-use Rattle.jo_names.specs.Blocks.{all_of, answer_to}
+use Rattle.jo_names.specs.inner.Blocks.{all_of, answer_to}
 use Rattle.jo_names.proofs.Judging.{judged_same}
 use Rattle.jo_names.proofs.Stated.{enters, bindings-entered, head-ended, on_ok}
 use Rattle.jo_names.proofs.scopes.Scopes.declarations.Goals as goal

@@ -1,5 +1,5 @@
 use Rattle.std.proofs.Common.{rules, ◌∙◌, sym}
-use Rattle.jo_names.specs.Blocks.{all_of}
+use Rattle.jo_names.specs.inner.Blocks.{all_of}
 use Rattle.jo_names.proofs.Turns.{exprs-turn, after_ok, after_err}
 use Rattle.jo_names.proofs.scopes.Scopes.exprs.Goals as goal
 

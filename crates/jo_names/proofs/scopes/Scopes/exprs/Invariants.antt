@@ -1,7 +1,7 @@
 use Rattle.std.proofs.Common.{◌≡◌, drop}
 use Rattle.jo_grammar.specs.Declarations.{faults_of_uses, uses_of_all}
 use Rattle.jo_tree.specs.ScriptViews.{trees_list}
-use Rattle.jo_names.specs.Blocks.{all_of, answer_to}
+use Rattle.jo_names.specs.inner.Blocks.{all_of, answer_to}
 use Rattle.jo_names.proofs.scopes.Scopes.exprs.Given as goal
 
 abbrev pub invariant-loop-expr : goal.invariant-loop-expr

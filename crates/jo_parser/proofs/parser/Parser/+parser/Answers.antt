@@ -1,7 +1,7 @@
 use Rattle.std.proofs.Common.{arith, ◌-◌}
 use Rattle.std.proofs.lemmas.Grind.{common_steps}
 use Rattle.jo_tree.specs.Views.{accesses_list, chain_tree, links_list, props_list}
-use Rattle.jo_grammar.specs.Read.{under, chain_of, read, expect, accesses_from, assignment, chains, condition, group_after, links_from, object_after, only_member, prefixed, primary, props_from}
+use Rattle.jo_grammar.specs.inner.Read.{under, chain_of, read, expect, accesses_from, assignment, chains, condition, group_after, links_from, object_after, only_member, prefixed, primary, props_from}
 use Rattle.jo_parser.proofs.Lists.{accesses-with-name, accesses-with-key, links-with, props-with}
 use Rattle.jo_parser.proofs.Parts.{makes-reads}
 use Rattle.jo_parser.proofs.Rooms.{one_more}

@@ -1,8 +1,8 @@
 use Rattle.std.proofs.Common.{◌≡◌, ◌-◌, length, ◌+◌, ◌*◌}
 use Rattle.jo_tree.specs.Trees.{no_accesses, no_links}
 use Rattle.jo_tree.specs.Views.{accesses_list, links_list, props_list}
-use Rattle.jo_grammar.specs.Read as spec
-use Rattle.jo_grammar.specs.Read.{under}
+use Rattle.jo_grammar.specs.inner.Read as spec
+use Rattle.jo_grammar.specs.inner.Read.{under}
 use Rattle.jo_parser.proofs.parser.Parser.+parser.Given as goal
 
 abbrev pub decreases-expression : goal.decreases-expression

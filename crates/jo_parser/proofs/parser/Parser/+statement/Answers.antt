@@ -1,7 +1,7 @@
 use Rattle.std.proofs.Common.{arith}
 use Rattle.std.proofs.lemmas.Grind.{common_steps}
 use Rattle.jo_tree.specs.ScriptViews.{items_list}
-use Rattle.jo_grammar.specs.ReadStatements.{read_statement, block_from, block_after, for_after, if_after, while_after}
+use Rattle.jo_grammar.specs.inner.ReadStatements.{read_statement, block_from, block_after, for_after, if_after, while_after}
 use Rattle.jo_parser.proofs.Rooms.{one_more}
 use Rattle.jo_parser.proofs.ScriptRules.{script_reading, items_list-push}
 use Rattle.jo_parser.proofs.parser.Parser.+statement.Goals as goal

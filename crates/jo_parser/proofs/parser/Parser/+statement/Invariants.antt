@@ -1,6 +1,6 @@
 use Rattle.std.proofs.Common.{length, ◌≡◌, ◌-◌, ◌+◌, ◌*◌}
-use Rattle.jo_grammar.specs.ReadStatements as spec
-use Rattle.jo_grammar.specs.ReadStatements.{read_statement}
+use Rattle.jo_grammar.specs.inner.ReadStatements as spec
+use Rattle.jo_grammar.specs.inner.ReadStatements.{read_statement}
 use Rattle.jo_tree.specs.Trees.{no_items}
 use Rattle.jo_tree.specs.ScriptViews.{items_list}
 use Rattle.jo_parser.proofs.parser.Parser.+statement.Given as goal

@@ -2,8 +2,8 @@ use Rattle.std.proofs.Common.{arith}
 use Rattle.std.proofs.lemmas.Grind.{common_steps}
 use Rattle.jo_tree.specs.ScriptViews.{bindings_list}
 use Rattle.jo_tree.proofs.ScriptShapes.{bindings_list-push}
-use Rattle.jo_grammar.specs.Read.{expect}
-use Rattle.jo_grammar.specs.ReadStatements.{bindings_from}
+use Rattle.jo_grammar.specs.inner.Read.{expect}
+use Rattle.jo_grammar.specs.inner.ReadStatements.{bindings_from}
 use Rattle.jo_parser.proofs.Rooms.{one_more}
 use Rattle.jo_parser.proofs.ScriptRules.{script_reading}
 use Rattle.jo_parser.proofs.parser.Parser.bindings.Goals as goal

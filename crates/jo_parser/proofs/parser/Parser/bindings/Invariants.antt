@@ -1,5 +1,5 @@
 use Rattle.std.proofs.Common.{length, ◌≡◌, ◌-◌}
-use Rattle.jo_grammar.specs.ReadStatements as spec
+use Rattle.jo_grammar.specs.inner.ReadStatements as spec
 use Rattle.jo_tree.specs.ScriptViews.{bindings_list}
 use Rattle.jo_parser.proofs.parser.Parser.bindings.Given as goal
 

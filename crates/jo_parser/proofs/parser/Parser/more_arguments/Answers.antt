@@ -2,8 +2,8 @@ use Rattle.std.proofs.Common.{arith}
 use Rattle.std.proofs.lemmas.Grind.{common_steps}
 use Rattle.jo_tree.specs.ScriptViews.{trees_list}
 use Rattle.jo_tree.proofs.ScriptShapes.{trees_list-push}
-use Rattle.jo_grammar.specs.Read.{expect}
-use Rattle.jo_grammar.specs.ReadStatements.{arguments_from}
+use Rattle.jo_grammar.specs.inner.Read.{expect}
+use Rattle.jo_grammar.specs.inner.ReadStatements.{arguments_from}
 use Rattle.jo_parser.proofs.Rooms.{one_more}
 use Rattle.jo_parser.proofs.ScriptRules.{script_reading}
 use Rattle.jo_parser.proofs.parser.Parser.more_arguments.Goals as goal

@@ -1,7 +1,7 @@
 use Rattle.std.proofs.Common.{arith, ◌≡◌, ◌-◌, ◌∙◌, ap, length}
 use Rattle.std.proofs.lemmas.Grind.{common_steps}
 use Rattle.jo_tree.specs.ScriptViews.{items_list}
-use Rattle.jo_grammar.specs.ReadStatements.{whole_script, script_from}
+use Rattle.jo_grammar.specs.inner.ReadStatements.{whole_script, script_from}
 use Rattle.jo_parser.proofs.Rooms.{one_more}
 use Rattle.jo_parser.proofs.ScriptRules.{script_reading, script_turns, script-over, items_list-push}
 use Rattle.jo_parser.proofs.parser.Parser.script.Goals as goal

@@ -1,7 +1,7 @@
 use Rattle.std.proofs.Common.{◌≡◌, ◌-◌, length, ap, subst, arith, length-append}
 use Rattle.std.proofs.lemmas.Str.{IsCharBoundary-at_seam}
 use Rattle.std.specs.Str.{IsCharBoundary}
-use Rattle.jo_lex.proofs.piece.front.Goals as goal
+use Rattle.jo_lex.proofs.beginning.front.Goals as goal
 
 pub split_at-requires : goal.split_at-requires
 split_at-requires c =

@@ -2,7 +2,7 @@
 use Rattle.std.specs.Prelude.{◌≡◌, ℕ, zero, suc, Bool, if◌then◌else◌, List, Option, None, Some, Result, Ok, Err}
 use Rattle.jo_grammar.specs.declared.terminal.Terminal.{Terminal}
 use Rattle.jo_grammar.specs.declared.terminal.Terminal.TheVariants as t
-use Rattle.jo_grammar.specs.Read.{Reader, and_then, next, sees}
+use Rattle.jo_grammar.specs.inner.Read.{Reader, and_then, next, sees}
 use Rattle.jo_tree.specs.declared.script.Item.{Item}
 use Rattle.jo_tree.specs.declared.script.Item.TheVariants as i
 use Rattle.jo_tree.specs.declared.keyword.Keyword.{Keyword}
@@ -10,8 +10,8 @@ use Rattle.jo_tree.specs.declared.keyword.Keyword.TheVariants as kw
 use Rattle.jo_tree.specs.Trees.{Items, Statement, break, continue}
 use Rattle.jo_tree.specs.ScriptViews.{let_list, statement_tree}
 use Rattle.jo_grammar.specs.Refusals.{unexpected, too_deep}
-use Rattle.jo_grammar.specs.ReadStatements as read
-use Rattle.jo_grammar.specs.ReadStatements.{Within, nothing_within, read_statement, a_declaration, a_statement, Answer}
+use Rattle.jo_grammar.specs.inner.ReadStatements as read
+use Rattle.jo_grammar.specs.inner.ReadStatements.{Within, nothing_within, read_statement, a_declaration, a_statement, Answer}
 use Rattle.jo_parser.specs.declared.stop.Stop.{Stop}
 use Rattle.jo_parser.specs.declared.stop.Stop.TheVariants as s
 

@@ -9,7 +9,7 @@ use Rattle.jo_grammar.specs.declared.terminal.Terminal.TheVariants as t
 use Rattle.jo_tree.specs.declared.word.Ident.{Ident}
 use Rattle.jo_tree.specs.Trees.{Tree, Binding, Head, declares, begins, Statement, empty, block, when, either, while, for, break, continue, print, print_names, evaluate, Items, no_items, declare, perform}
 use Rattle.jo_grammar.specs.Refusals.{Fault, unexpected}
-use Rattle.jo_grammar.specs.Read.{Reading, Reader, and_then, peek, next, sees, expect, open_at, enter, take, ended, read}
+use Rattle.jo_grammar.specs.inner.Read.{Reading, Reader, and_then, peek, next, sees, expect, open_at, enter, take, ended, read}
 
 -- ---- declarations
 

@@ -9,7 +9,7 @@ use Rattle.jo_tree.specs.Views.{expr_tree}
 use Rattle.jo_grammar.specs.declared.terminal.Terminal.{Terminal}
 use Rattle.jo_grammar.specs.declared.terminal.Terminal.TheVariants as t
 use Rattle.jo_grammar.specs.Refusals.{unexpected, too_deep}
-use Rattle.jo_grammar.specs.Read.{Reading, Reader, Below, and_then, expect, open_at, peek, assign_of}
+use Rattle.jo_grammar.specs.inner.Read.{Reading, Reader, Below, and_then, expect, open_at, peek, assign_of}
 use Rattle.jo_parser.specs.declared.stop.Stop.{Stop}
 use Rattle.jo_parser.specs.declared.stop.Stop.TheVariants as s
 

@@ -1,5 +1,5 @@
--- The classes of characters that the code names, as tests, and the end of a text.
-use Rattle.std.specs.Prelude.{◌≡◌, ℕ, Bool, List, ◌++◌}
+-- The classes of characters that the code names, as tests.
+use Rattle.std.specs.Prelude.{ℕ, Bool}
 use Rattle.jo_lex.specs.declared.character.Class.{Class}
 use Rattle.jo_lex.specs.declared.character.Class.TheVariants as class
 use Rattle.jo_lex.specs.Characters.{is_blank, is_in_line, is_word_start, is_word_part, is_spoiler}
@@ -13,7 +13,3 @@ test_of class.Digit = is_digit
 test_of class.WordStart = is_word_start
 test_of class.WordPart = is_word_part
 test_of class.Spoiler = is_spoiler
-
--- the text ends so
-abbrev pub EndsWith : List ℕ → List ℕ → Type 0
-EndsWith text end = (front : List ℕ) × (text ≡ front ++ end)

@@ -9,6 +9,7 @@ use Rattle.jo_lex.specs.declared.token.TokenKind.{TokenKind}
 use Rattle.jo_lex.specs.declared.refusal.RefusalKind.TheVariants.{TooManyTexts}
 use Rattle.jo_lex.specs.declared.refusal.ParseFault.{ParseFault}
 use Rattle.jo_lex.specs.declared.refusal.ParseFault.TheVariants.{Memory, Refused}
+use Rattle.jo_lex.specs.Faults.{IsMemoryOr}
 use Rattle.jo_lex.specs.Pieces.{Lexeme}
 use Rattle.jo_lex.specs.Tokens.{Progress, refused, next, token_kind}
 
@@ -27,10 +28,8 @@ AddsToken lexeme start end old new texts table = (kind : TokenKind) × (token_ki
 
 -- no memory, or a text too many
 abbrev pub IsTooMany : Lexeme → ℕ → Table → ParseFault → Type 0
-IsTooMany lexeme place texts Memory = Unit {0}
-IsTooMany lexeme place texts (Refused r) = (token_kind texts lexeme ≡ None) × (r ≡ record { kind = TooManyTexts; place = place })
+IsTooMany lexeme place texts = IsMemoryOr (λ r. (token_kind texts lexeme ≡ None) × (r ≡ record { kind = TooManyTexts; place = place }))
 
 -- no memory, or what is wrong with the next piece
 abbrev pub FailsAt : Progress → ParseFault → Type 0
-FailsAt s Memory = Unit {0}
-FailsAt s (Refused r) = (next s ≡ refused r.kind) × (r.place ≡ s.place)
+FailsAt s = IsMemoryOr (λ r. (next s ≡ refused r.kind) × (r.place ≡ s.place))

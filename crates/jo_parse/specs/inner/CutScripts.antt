@@ -2,12 +2,14 @@
 use Rattle.std.specs.Prelude.{◌≡◌, List, map}
 use Rattle.jo_lex.specs.declared.refusal.RefusalKind.TheVariants.{TooManyScripts}
 use Rattle.jo_lex.specs.declared.refusal.ParseFault.{ParseFault}
-use Rattle.jo_lex.specs.declared.refusal.ParseFault.TheVariants.{Memory, Refused}
+use Rattle.jo_lex.specs.declared.refusal.ParseFault.TheVariants.{Refused}
+use Rattle.jo_lex.specs.Faults.{IsMemoryOr}
 use Rattle.jo_grammar.specs.Cuts.{Section, end_of, sections_of, IsOneTooMany}
 use Rattle.jo_parse.specs.declared.section.Section.{Section as Held}
 
+-- a section that the code holds, and those of a list
 abbrev pub section_of : Held → Section
-section_of part = record { start = part.start; text = part.text.now }
+section_of part = record { start = part.start; input = part.input.now }
 
 abbrev pub sections_in : List Held → List Section
 sections_in parts = map section_of parts
@@ -18,5 +20,4 @@ one_too_many section = Refused (record { kind = TooManyScripts; place = end_of s
 
 -- want of memory, or a script too many
 abbrev pub IsCutFault : List ℕ → ParseFault → Type 0
-IsCutFault text Memory = Unit {0}
-IsCutFault text (Refused refusal) = (refusal.kind ≡ TooManyScripts) × IsOneTooMany (sections_of text) refusal.place
+IsCutFault input = IsMemoryOr (λ refusal. (refusal.kind ≡ TooManyScripts) × IsOneTooMany (sections_of input) refusal.place)
