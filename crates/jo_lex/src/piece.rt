@@ -4,8 +4,8 @@ ghost use Rattle.std.specs.Str.{chars};
 ghost use Rattle.jo_lex.specs.Pieces as spec;
 ghost use Rattle.jo_lex.specs.inner.Views.{piece_of, IsWithin};
 
-use crate::character::{Class, is_in, past};
 use crate::beginning::front;
+use crate::character::{Class, is_in, past};
 use crate::comment::comment;
 use crate::literal::{number, text_literal};
 use crate::operator::operator;

@@ -3,8 +3,8 @@
 
 mod lex;
 mod named;
-mod section;
 mod reader;
+mod section;
 mod set;
 mod spell;
 mod utf8;

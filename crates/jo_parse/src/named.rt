@@ -4,8 +4,8 @@ ghost use Rattle.jo_grammar.specs.Sets.{faults_of_all};
 ghost use Rattle.jo_tree.specs.ScriptViews.{script_tree};
 ghost use Rattle.jo_parse.specs.inner.Stages.{IsFirstNameFault};
 
-use jo_names::judge;
 use jo_lex::ParseFault;
+use jo_names::judge;
 use jo_tree::Script;
 use std::alloc::Global;
 
