@@ -19,16 +19,11 @@ def lines_of(path):
 
 
 def table():
-    """The rows of each crate, in the order of crates.txt."""
-    names = [line.split(":")[0].split()[0] for line in (TOP / "crates.txt").read_text(encoding="utf-8").splitlines() if line and line[0] != "#"]
-    rows, total = ["| Crate | Files of `specs/`, each with its lines | Lines |", "|---|---|---|"], 0
-    for name in names:
-        files = [(path.stem, lines_of(path)) for path in sorted((TOP / "crates" / name / "specs").glob("*.antt")) if path.name not in LISTS]
-        if files:
-            count = sum(lines for _, lines in files)
-            total += count
-            rows.append(f"| `{name}` | {', '.join(f'`{stem}` {lines:,}' for stem, lines in files)} | {count:,} |")
-    return "\n".join(rows + [f"| all | | {total:,} |"])
+    """A row for each file, by crates in the order of crates.txt, and one for all."""
+    crates = [line.split(":")[0].split()[0] for line in (TOP / "crates.txt").read_text(encoding="utf-8").splitlines() if line and line[0] != "#"]
+    files = [path for crate in crates for path in sorted((TOP / "crates" / crate / "specs").glob("*.antt")) if path.name not in LISTS]
+    rows = [f"| `{path.relative_to(TOP / 'crates')}` | {lines_of(path):,} |" for path in files]
+    return "\n".join(["| File | Lines |", "|---|---:|", *rows, f"| {len(files)} files | {sum(map(lines_of, files)):,} |"])
 
 
 def main():
