@@ -1,4 +1,4 @@
--- Worked cases: the form and the output text of scripts, and the lines of refusals, by computation.
+-- Worked cases: the form and the output of scripts, and the lines of refusals, by computation.
 use Rattle.std.proofs.Common.{refl}
 use Rattle.std.specs.Prelude.{◌≡◌, ℕ, pos, false, [], ◌∷◌, codes, Some, None}
 use Rattle.std.specs.Fmt.{digits}
@@ -27,7 +27,7 @@ use Rattle.jo_answer.specs.Lines.{refusal_line}
 abbrev texts : Table
 texts = codes "shared" ∷ codes "x" ∷ codes "y" ∷ codes "print" ∷ codes "z" ∷ codes "in" ∷ []
 
--- `shared.name`, by the number of the name
+-- `shared.name`, by the id of the name
 abbrev read : ℕ → Tree
 read n = member (constant keyword.Shared) (field (Ident (record { text = record { 0 = n }; place = 0; is_proto = false })) no_accesses)
 

@@ -27,40 +27,40 @@ pub record IsForm (bytes : ℕ) (scripts : List Items) (texts : Table) (steps : 
 abbrev pub IsBuilt : ℕ → List Items → Table → Type 0
 IsBuilt bytes scripts texts = (steps : List Step) × IsForm bytes scripts texts steps
 
--- The history that one thread gives for a script, in pass 1 alone, is a legal one in which the script is done, and the text is its output.
-pub record IsOutputOf (script : Items) (texts : Table) (text : List ℕ) : Type 0 where
+-- The history that one thread gives for a script, in pass 1 alone, is a legal one in which the script is done, and what is written is its output.
+pub record IsOutputOf (script : Items) (texts : Table) (written : List ℕ) : Type 0 where
   pub of_script : IsHistoryOf (script ∷ []) texts DEFAULT_TURNS (Done ∷ []) (played_alone script texts DEFAULT_TURNS).history
   pub alone : entries_of 1 (played_alone script texts DEFAULT_TURNS).history ≡ (played_alone script texts DEFAULT_TURNS).history
-  pub text_is : text ≡ output texts DEFAULT_TURNS (played_alone script texts DEFAULT_TURNS).history (script ∷ [])
+  pub text_is : written ≡ output texts DEFAULT_TURNS (played_alone script texts DEFAULT_TURNS).history (script ∷ [])
 
--- the bytes are an accepted set that is built, and the text is the output of its script
-pub record IsRun (bytes text : List ℕ) : Type 0 where
+-- the bytes are an accepted set that is built, and what is written is the output of its script
+pub record IsRun (bytes written : List ℕ) : Type 0 where
   pub scripts : List Items
   pub texts : Table
   pub steps : List Step
   pub set : IsAcceptedSet bytes scripts texts
   pub form : IsForm (length bytes) scripts texts steps
-  pub output_is : IsOutputOf form.script texts text
+  pub output_is : IsOutputOf form.script texts written
 
--- the bytes are refused, and the text says for what and where
-pub record IsRefusalLine (bytes text : List ℕ) : Type 0 where
+-- the bytes are refused, and what is written says for what and where
+pub record IsRefusalLine (bytes written : List ℕ) : Type 0 where
   pub refusal : Refusal
   pub refused : IsRefusal bytes refusal
-  pub line : text ≡ refusal_line refusal
+  pub line : written ≡ refusal_line refusal
 
--- the bytes are an accepted set that the program does not run so far, and the text says so
-pub record IsNotBuilt (bytes text : List ℕ) : Type 0 where
+-- the bytes are an accepted set that the program does not run so far, and what is written says so
+pub record IsNotBuilt (bytes written : List ℕ) : Type 0 where
   pub scripts : List Items
   pub texts : Table
   pub set : IsAcceptedSet bytes scripts texts
   pub unbuilt : IsBuilt (length bytes) scripts texts → ⊥
-  pub line : text ≡ not_built_line
+  pub line : written ≡ not_built_line
 
--- what is said of these bytes, and the text that is due for them
+-- what is said of these bytes, and what is due for them
 abbrev pub IsDue : Verdict → List ℕ → List ℕ → Type 0
-IsDue verdict.Done bytes text = IsRun bytes text
-IsDue verdict.Refused bytes text = IsRefusalLine bytes text ⊎ IsNotBuilt bytes text
-IsDue verdict.TooLarge bytes text = (MOST_INPUT < length bytes) × (text ≡ size_line)
+IsDue verdict.Done bytes written = IsRun bytes written
+IsDue verdict.Refused bytes written = IsRefusalLine bytes written ⊎ IsNotBuilt bytes written
+IsDue verdict.TooLarge bytes written = (MOST_INPUT < length bytes) × (written ≡ size_line)
 
 -- an input that is refused, or an accepted set that the program does not run so far
 abbrev pub IsRefusedInput : List ℕ → Type 0

@@ -27,17 +27,17 @@ pub enum Verdict {
     TooLarge,
 }
 
-/// What is said of an input, and the text that is due for it.
+/// What is said of an input, and the output that is due for it.
 #[derive(Drop)]
 pub struct Answer {
     pub verdict: Verdict,
-    pub text: Vec<u8>,
+    pub output: Vec<u8>,
 }
 
 /// The answer to an input, of which a byte more than the most may be given.
 pub fn answer_to(alloc: Global, bytes: &[u8]) -> Result<Answer, AllocError>
     ensures whole { IfOk result (λ answer. (answer.verdict ≡ Verdict.TooLarge → ⊥) → length bytes.now ≤ MOST_INPUT) }
-    ensures due { IfOk result (λ answer. IsDue answer.verdict bytes.now answer.text.items) }
+    ensures due { IfOk result (λ answer. IsDue answer.verdict bytes.now answer.output.items) }
 {
     if bytes.len() > MOST_INPUT {
         return line(alloc, Verdict::TooLarge, SIZE_LINE);
@@ -49,7 +49,7 @@ pub fn answer_to(alloc: Global, bytes: &[u8]) -> Result<Answer, AllocError>
         }
         Err(ParseFault::Refused(refusal)) => Ok(Answer {
             verdict: Verdict::Refused,
-            text: refusal_line(alloc, refusal)?,
+            output: refusal_line(alloc, refusal)?,
         }),
         Err(ParseFault::Memory) => Err(AllocError),
     }
@@ -58,25 +58,25 @@ pub fn answer_to(alloc: Global, bytes: &[u8]) -> Result<Answer, AllocError>
 // A line and nothing else.
 fn line(alloc: Global, verdict: Verdict, line: &[u8]) -> Result<Answer, AllocError>
     ensures verdict { IfOk result (λ answer. answer.verdict ≡ verdict) }
-    ensures text { IfOk result (λ answer. answer.text.items ≡ line.now) }
+    ensures output { IfOk result (λ answer. answer.output.items ≡ line.now) }
 {
     Ok(Answer {
         verdict,
-        text: line.to_vec(alloc)?,
+        output: line.to_vec(alloc)?,
     })
 }
 
 // The answer to an accepted set.
 fn answer_to_set(alloc: Global, bytes: &[u8], set: &ScriptSet) -> Result<Answer, AllocError>
     requires { IsAcceptedSet bytes.now (trees_of set.now) set.now.1 }
-    ensures { IfOk result (λ answer. IsDue answer.verdict bytes.now answer.text.items) }
+    ensures { IfOk result (λ answer. IsDue answer.verdict bytes.now answer.output.items) }
 {
     match form_in(alloc, bytes.len(), set)? {
         Some(form) => {
-            let text = output(alloc, &form, set.texts())?;
+            let output = output(alloc, &form, set.texts())?;
             Ok(Answer {
                 verdict: Verdict::Done,
-                text,
+                output,
             })
         }
         None => line(alloc, Verdict::Refused, NOT_BUILT_LINE),
@@ -97,12 +97,18 @@ fn form_in(alloc: Global, length: usize, set: &ScriptSet) -> Result<Option<Form>
 
 // The output of a script of the small form.
 fn output(alloc: Global, form: &Form, texts: &Texts) -> Result<Vec<u8>, AllocError>
-    ensures { IfOk result (λ text. AreSmall form.now.steps
-        → (script : Items) → form_of texts.now script ≡ Some form.now.steps → IsOutputOf script texts.now text.items) }
+    ensures { IfOk result (λ written. AreSmall form.now.steps
+        → (script : Items) → form_of texts.now script ≡ Some form.now.steps → IsOutputOf script texts.now written.items) }
 {
     let walked = walk(alloc, form, texts)?;
-    let mut text = Vec::new(alloc);
-    add_run(alloc, &mut text, 1, walked.lines.as_slice(), walked.outcome)?;
-    add_heap(alloc, &mut text, texts, &walked.heap)?;
-    Ok(text)
+    let mut written = Vec::new(alloc);
+    add_run(
+        alloc,
+        &mut written,
+        1,
+        walked.lines.as_slice(),
+        walked.outcome,
+    )?;
+    add_heap(alloc, &mut written, texts, &walked.heap)?;
+    Ok(written)
 }

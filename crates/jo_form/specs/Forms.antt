@@ -45,11 +45,11 @@ is_word [] = false
 is_word (b ∷ text) = not (is_digit b)
 
 module _ (texts : Table) where
-  -- the name with a number, where its text can be a word
+  -- the name with an id, where its text can be a word
   abbrev pub name_with : ℕ → Option NameId
   name_with n = if is_word (text_in texts n) then Some (record { 0 = n }) else None
 
-  -- a word that names a property, by its number in the table
+  -- a word that names a property, by its id
   abbrev pub name_of : Word → Option NameId
   name_of name = name_with (name_id texts name)
 
@@ -88,7 +88,7 @@ names_in (step.Print names) = map (λ name. name.0) names
 abbrev pub with_number : List ℕ → ℕ → List ℕ
 with_number numbers n = if list_any (λ other. n == other) numbers then numbers else numbers ++ n ∷ []
 
--- each number once, in the order of their first places
+-- each id once, in the order of their first places
 abbrev pub each_once : List ℕ → List ℕ
 each_once numbers = fold with_number [] numbers
 

@@ -15,7 +15,7 @@ fn is_word(text: &[u8]) -> bool
     }
 }
 
-// The name with this number, where its text can be a word.
+// The name with this id, where its text can be a word.
 fn name_with(texts: &Texts, id: TextId) -> Option<NameId>
     ensures { result ≡ name_with texts.now id.0 }
 {

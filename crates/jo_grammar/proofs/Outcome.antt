@@ -383,7 +383,7 @@ token_of-code (t.Keyword kw.True) h = refl
 token_of-code (t.Keyword kw.Undefined) h = refl
 token_of-code (t.Keyword kw.While) h = refl
 
--- a punctuator or keyword is known by its number
+-- a punctuator or keyword is known by its code
 pub code-same : (b c : Terminal) → 5 ≤ code c → code b ≡ code c → b ≡ c
 code-same b c h e =
     let many : 5 ≤ code b = omega arith in

@@ -42,7 +42,7 @@ place-within p (x ∷ xs) (suc i) d le e = step (p x) (place-within p xs i d (om
     step true h = omega arith
     step false h = omega (arith, h)
 
--- the text of a keyword that a number of the table means is in the table
+-- the text of a keyword that an id of the table means is in the table
 keyword-within : (texts : Table) (id : TextId) (w : Keyword) → id.0 < length texts → keyword_of (text_in texts id.0) ≡ Some w → id_in texts (keyword_text w) < length texts
 keyword-within texts id w h e =
     place-within (λ t. bytes_eq t (keyword_text w)) texts id.0 [] h (nat_list_eq_equiv.symm (text_in texts id.0) (keyword_text w) ∙ keyword-has (text_in texts id.0) w e)

@@ -121,7 +121,7 @@ interned-good texts bytes = step (nat_lt (id_in texts bytes) (length texts)) ref
 
 -- ---- kinds
 
--- the text of the kind is among so many, and its number is in range
+-- the text of the kind is among so many, and a number is in range
 abbrev pub IsGoodKind : ℕ → TokenKind → Type 0
 IsGoodKind n (kind.Word id) = id.0 < n
 IsGoodKind n (kind.Reserved id) = id.0 < n

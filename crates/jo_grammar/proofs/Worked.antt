@@ -19,7 +19,7 @@ use Rattle.jo_grammar.specs.Refusals.{terms, Within, OpensTooMany}
 
 -- The words of the cases.
 
--- the word with a number
+-- the word with an id
 abbrev pub ident : ℕ → Ident
 ident n = record { text = record { 0 = n }; place = n; is_proto = false }
 
@@ -43,7 +43,7 @@ d = variable (ident 3)
 abbrev e : Tree
 e = variable (ident 4)
 
--- the word with a number, as a token
+-- the word with an id, as a token
 abbrev pub word_ : ℕ → Mark
 word_ n = plain (t.Ident (ident n))
 

@@ -38,7 +38,7 @@ a_key_is_in_range_too h = one_more_is_not h
 
 -- ---- texts and names
 
--- a variable and a text with the number after the last
+-- a variable and a text with the id after the last
 abbrev pub past : Literal
 past = record { text = record { 0 = 3 }; is_proto = false }
 

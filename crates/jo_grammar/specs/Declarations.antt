@@ -1,4 +1,4 @@
--- Which uses and declarations of names are faults. A name stands as the number of its text.
+-- Which uses and declarations of names are faults. A name stands as the id of its text.
 --
 -- The whole script is a block, and so are each statement in braces and each `for`. A binding declares its name in the
 -- block in which its `let` stands, and the `let` in the head of a `for` does so in the block of that `for`. A use of a

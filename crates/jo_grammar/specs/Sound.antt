@@ -41,7 +41,7 @@ count_of_items (declare bindings items) = count_of_items items + 1
 count_of_items (perform statement items) = count_of_items items + 1
 
 module _ (texts : Table) where
-  -- the table has a text of this number
+  -- the table has a text with this id
   abbrev pub IsNumbered : TextId → Type 0
   IsNumbered t = t.0 < length texts
 

@@ -11,7 +11,7 @@ pub enum Terminal {
     Ident(Ident),
     /// A reserved word that the grammar names.
     Keyword(Keyword),
-    /// Any other reserved word, by its number in the table of texts.
+    /// Any other reserved word, by its id in the table of texts.
     Reserved(TextId),
     /// A number literal.
     Number(i64),

@@ -21,7 +21,7 @@ use Rattle.jo_lex.specs.Pieces.{Lexeme, word, number, text, punctuator, Piece, g
 abbrev pub is_one_too_many : Table → List ℕ → Bool
 is_one_too_many table bytes = id_in table bytes == length table && length table == MOST_TEXTS
 
--- the number of a text, and the table with it
+-- the id of a text, and the table with it
 abbrev pub identified : (TextId → TokenKind) → Table → List ℕ → Option (TokenKind × Table)
 identified of table bytes = if is_one_too_many table bytes then None else Some (of (record { 0 = id_in table bytes }), interned table bytes)
 

@@ -105,7 +105,7 @@ pub(crate) fn first_of(input: &str) -> Option<(char, &str)>
     }
 }
 
-/// Whether a text begins with a character of the class.
+/// Whether an input begins with a character of the class.
 pub(crate) fn begins(class: Class, input: &str) -> bool
     ensures { result ≡ spec.begins_with (test_of class) (chars input.now) }
 {
@@ -115,7 +115,7 @@ pub(crate) fn begins(class: Class, input: &str) -> bool
     }
 }
 
-/// What follows the characters of the class that a text begins with.
+/// What follows the characters of the class that an input begins with.
 pub(crate) fn past(class: Class, input: &str) -> &str
     ensures rest { chars result.now ≡ spec.drop_while (test_of class) (chars input.now) }
     ensures suffix { EndsWith input.now result.now }

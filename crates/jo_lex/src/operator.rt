@@ -1,4 +1,4 @@
-// Punctuators at the front of a text.
+// Punctuators at the front of an input.
 ghost use Rattle.std.specs.Prelude.{◌≡◌, ◌+◌, ◌-◌, ◌<◌, [], ◌∷◌, true, false, length, take, drop, MatchOption, Some, None};
 ghost use Rattle.std.specs.Str.{chars};
 ghost use Rattle.jo_lex.specs.Pieces as spec;
@@ -10,7 +10,7 @@ use crate::piece::{Lexeme, Piece};
 use crate::punct::beginning_with;
 use crate::{Punct, RefusalKind};
 
-// What is left after the punctuator, where the text begins with it.
+// What is left after the punctuator, where the input begins with it.
 fn past_punctuator<'a>(punctuator: &str, input: &'a str) -> Option<&'a str>
     requires { is_ascii punctuator.now ≡ true }
     ensures { MatchOption result (fits punctuator.now (chars input.now) ≡ false)
@@ -46,7 +46,7 @@ fn lookup<'a>(
     None
 }
 
-// The longest punctuator of a text with this first character, where it is accepted.
+// The longest punctuator of an input with this first character, where it is accepted.
 pub(crate) fn operator(input: &str, first: char) -> Piece<'_>
     requires { take 1 (chars input.now) ≡ first ∷ [] }
     ensures value { let cs = chars input.now in

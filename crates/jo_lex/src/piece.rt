@@ -22,7 +22,7 @@ pub(crate) enum Lexeme<'a> {
     Punct(Punct),
 }
 
-/// Blanks or a comment, a token, or what is wrong; with what is left of the text.
+/// Blanks or a comment, a token, or what is wrong; with what is left of the input.
 #[derive(Drop)]
 pub(crate) enum Piece<'a> {
     Gap(&'a str),

@@ -1,4 +1,4 @@
-// Why a text is no accepted set of scripts.
+// Why an input is no accepted set of scripts.
 
 use std::alloc::AllocError;
 use thiserror::Error;

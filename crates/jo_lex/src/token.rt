@@ -3,7 +3,7 @@
 use crate::Punct;
 use jo_value::TextId;
 
-/// What a token is. Words and text literals are named by their numbers in the table of texts.
+/// What a token is. Words and text literals are named by their ids in the table of texts.
 #[derive(Clone, Copy, PartialEq, Eq)]
 pub enum TokenKind {
     /// A word that is not reserved.

@@ -44,7 +44,7 @@ y = variable (ident 1)
 abbrev pub z : Tree
 z = variable (ident 2)
 
--- a number, a text by its number, and a word of the language, each as an expression
+-- a number, a text by its id, and a word of the language, each as an expression
 abbrev pub natural : ℕ → Tree
 natural n = number (pos n)
 

@@ -9,7 +9,7 @@ use Rattle.jo_meaning.specs.Runs.{Run, Ended}
 use Rattle.jo_meaning.specs.Play.{Played, play}
 use Rattle.jo_meaning.specs.Scripts.{interaction_of, does}
 
--- what script number t does in a history, where its pass is t and it has so many turns
+-- what script t does in a history, where its pass is t and it has so many turns
 abbrev pub run_in : History → ℕ → Items → Table → ℕ → Run
 run_in w t script texts turns = does script texts turns (replies_of t w)
 
@@ -19,7 +19,7 @@ pub record IsRunIn (w : History) (t : ℕ) (script : Items) (texts : Table) (tur
   pub ended : (run_in w t script texts turns).stand ≡ Ended outcome
 
 -- A history of these scripts with their outcomes, where each has so many turns: it is legal, pass 0 is silent in it,
--- and script number t, counted from 1, is run to its end by pass t.
+-- and script t, counted from 1, is run to its end by pass t.
 pub record IsHistoryOf (scripts : List Items) (texts : Table) (turns : ℕ) (outcomes : List Outcome) (w : History) : Type 0 where
   pub legal : IsLegal (length scripts + 1) w
   pub setup : calls_of 0 w ≡ []

@@ -38,7 +38,7 @@ abbrev pub key_by : ℕ → Option ℕ → Result Key Outcome
 key_by id None = Ok (Name (record { 0 = id }))
 key_by id (Some n) = if nat_le n MOST_ARRAY_INDEX then key_at n else Ok (Name (record { 0 = id }))
 
--- the key of the text with a number; KeyOutside where the table lacks it
+-- the key of the text with an id; KeyOutside where the table lacks it
 abbrev pub key_of_text : ℕ → Option (List ℕ) → Result Key Outcome
 key_of_text id None = Err KeyOutside
 key_of_text id (Some text) = key_by id (numeral text)
@@ -51,7 +51,7 @@ key_in texts _ = Err KeyOutside
 
 -- ---- words that name properties
 
--- the number, in the table, of a word that names a property
+-- the id of a word that names a property
 abbrev pub name_id : Table → Word → ℕ
 name_id texts (word.Ident x) = x.text.0
 name_id texts (word.Keyword w) = id_in texts (keyword_text w)

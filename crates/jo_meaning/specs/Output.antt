@@ -14,7 +14,7 @@ stand_text (Ended outcome) = outcome_text outcome
 stand_text (Waits call) = []
 
 module _ (texts : Table) (turns : ℕ) (w : History) where
-  -- the part of script number t, by what it does in a history
+  -- the part of script t, by what it does in a history
   abbrev pub script_text : ℕ × Items → List ℕ
   script_text s = run_text s.0 (run_in w s.0 s.1 texts turns).lines (stand_text (run_in w s.0 s.1 texts turns).stand)
 

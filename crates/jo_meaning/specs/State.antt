@@ -11,7 +11,7 @@ use Rattle.jo_model.specs.declared.call.Reply.{Reply}
 use Rattle.jo_model.specs.declared.call.Reply.TheVariants as reply
 use Rattle.jo_meaning.specs.Runs.{Interaction, Ends, Asks, Takes}
 
--- the turns that are left, the value of each variable by its number, and the bytes of the lines so far
+-- the turns that are left, the value of each variable, and the bytes of the lines so far
 pub record State : Type 0 where
   pub turns : ℕ
   pub variables : ℕ → Value
@@ -100,11 +100,11 @@ take_turn (suc left) next s = Takes (next (record s { turns = left }))
 
 -- ---- variables
 
--- the names that the enclosing blocks declare, the innermost block first, each as the number of its text
+-- the names that the enclosing blocks declare, the innermost block first, each as the id of its text
 abbrev pub Environment : Type 0
 Environment = List ℕ
 
--- the number of the variable that a name means: that of the innermost block in which it is declared, if any
+-- Which variable a name means: that of the innermost block in which it is declared, if any.
 -- Variables are counted from the outermost block on. Nothing is done with them where a block begins:
 -- no accepted script reads a variable before its `let` has run.
 abbrev pub variable_of : Environment → Ident → Option ℕ

@@ -25,7 +25,7 @@ use Rattle.jo_model.specs.Placed.{HeapChange, after, PlacedCall, IsInOwnOrder, I
 
 -- The words of the cases.
 
--- the name with a number, as a key
+-- the name with an id, as a key
 abbrev name : ℕ → Key
 name n = Name (record { 0 = n })
 
@@ -95,7 +95,7 @@ pub a_name_that_is_not_there_reads_undefined :
     at three (call.Get shared (name 3)) ≡ gives three (reply.Found value.Undefined)
 a_name_that_is_not_there_reads_undefined = refl
 
--- so does an index, which is another key than the name of its number
+-- so does an index, which is another key than the name whose id it is
 pub an_index_is_no_name_of_the_same_number :
     at three (call.Get shared (Index 0)) ≡ gives three (reply.Found value.Undefined)
 an_index_is_no_name_of_the_same_number = refl
@@ -134,7 +134,7 @@ pub a_swap_at_another_value_changes_nothing :
     at three (call.Cas shared (name 1) (number 3) (number 8)) ≡ gives three (reply.Found (number 2))
 a_swap_at_another_value_changes_nothing = refl
 
--- the text with number 2 is not the number 2
+-- the text with id 2 is not the number 2
 pub a_swap_takes_no_text_for_a_number :
     at three (call.Cas shared (name 1) (text 2) (number 8)) ≡ gives three (reply.Found (number 2))
 a_swap_takes_no_text_for_a_number = refl
@@ -150,11 +150,11 @@ pub a_swap_at_a_key_that_holds_undefined_replaces_it :
     ≡ gives (object (named 0 (number 8) ∷ []) []) (reply.Found value.Undefined)
 a_swap_at_a_key_that_holds_undefined_replaces_it = refl
 
--- equal texts have one number, and are strictly equal
+-- equal texts have one id, and are strictly equal
 pub equal_texts_are_strictly_equal : is_strictly_equal (text 4) (text 4) ≡ true
 equal_texts_are_strictly_equal = refl
 
--- a text is not strictly equal to the number of its place in the table
+-- a text is not strictly equal to the number that its id is
 pub a_text_is_no_number : is_strictly_equal (text 4) (number 4) ≡ false
 a_text_is_no_number = refl
 
@@ -166,7 +166,7 @@ undefined_is_not_null = refl
 pub one_is_not_minus_one : is_strictly_equal (number 1) (value.Int (negsuc 0)) ≡ false
 one_is_not_minus_one = refl
 
--- objects of two passes differ, whatever their numbers
+-- objects of two passes differ, whatever their serials
 pub objects_of_two_passes_differ :
     is_strictly_equal (value.Object (record { pass = 1; serial = 0 })) (value.Object shared) ≡ false
 objects_of_two_passes_differ = refl
@@ -179,7 +179,7 @@ a_delete_takes_an_index_out = refl
 
 -- Limits.
 
--- so many names, each with its number as its value
+-- so many names, each with its id as its value
 abbrev numbered : ℕ → List (NameId × Value)
 numbered zero = []
 numbered (suc n) = numbered n ++ named n (number n) ∷ []
@@ -218,7 +218,7 @@ pub a_full_object_takes_an_index :
     at (object (numbered 64) []) (put (Index 1023) 1) ≡ gives (object (numbered 64) ((1023, number 1) ∷ [])) reply.Done
 a_full_object_takes_an_index = refl
 
--- pass 1 puts these indexes, each with its number as its value
+-- pass 1 puts these indexes, each with itself as its value
 abbrev puts_at : List ℕ → List HeapChange
 puts_at [] = []
 puts_at (i ∷ is) = record { pass = 1; call = put (Index i) i } ∷ puts_at is
@@ -229,13 +229,13 @@ pub indexes_stand_in_rising_order :
     ≡ heap_of (object [] ((0, number 0) ∷ (1, number 1) ∷ (3, number 3) ∷ (5, number 5) ∷ (1023, number 1023) ∷ []))
 indexes_stand_in_rising_order = refl
 
--- New gives the next number of its own pass, and that object is empty
+-- New gives the next serial of its own pass, and that object is empty
 pub new_gives_the_next_number :
     one ((three ∷ []) ∷ (three ∷ three ∷ []) ∷ [] ∷ []) 1 call.New
     ≡ ((three ∷ []) ∷ (three ∷ three ∷ empty_object ∷ []) ∷ [] ∷ [], reply.Made (record { pass = 1; serial = 2 }))
 new_gives_the_next_number = refl
 
--- after 4,095 objects one more is made, with the last number
+-- after 4,095 objects one more is made, with the last serial
 pub the_last_object_is_made :
     (one ((three ∷ []) ∷ replicate 4095 empty_object ∷ []) 1 call.New).1
     ≡ reply.Made (record { pass = 1; serial = 4095 })
@@ -343,7 +343,7 @@ their_history =
     ∷ entry 2 look (found 2)
     ∷ []
 
--- reads stand between the two changes and on both sides of them, at one place by the number of the pass
+-- reads stand between the two changes and on both sides of them, at one place by pass
 pub a_weave_puts_each_read_at_its_place : weave two_puts their_calls ≡ their_history
 a_weave_puts_each_read_at_its_place = refl
 
@@ -473,17 +473,17 @@ pub a_name_without_a_text_reads_as_the_empty_text :
 unfolding digits
 a_name_without_a_text_reads_as_the_empty_text = refl
 
--- each line of a script stands after its number, an empty one too
-pub lines_stand_after_the_number : run_text 3 (codes "a b\n\nc\n") (outcome_text outcome.OutputFull) ≡ codes "3| a b\n3| \n3| c\n3= OutputFull\n"
+-- each line of a script stands after its pass, an empty one too
+pub lines_stand_after_the_pass : run_text 3 (codes "a b\n\nc\n") (outcome_text outcome.OutputFull) ≡ codes "3| a b\n3| \n3| c\n3= OutputFull\n"
 unfolding digits
-lines_stand_after_the_number = refl
+lines_stand_after_the_pass = refl
 
 -- a script that printed nothing has the line of its outcome alone
 pub no_line_stands_before_the_outcome : run_text 1 [] (outcome_text outcome.Done) ≡ codes "1= done\n"
 unfolding digits
 no_line_stands_before_the_outcome = refl
 
--- objects stand in order of pass and number
+-- objects stand in order of pass and serial
 pub objects_stand_in_order : heap_text [] ((empty_object ∷ []) ∷ (empty_object ∷ object [] ((0, value.Null) ∷ []) ∷ []) ∷ []) ≡ codes "#0.0 {}\n#1.0 {}\n#1.1 {0: null}\n"
 unfolding digits
 objects_stand_in_order = refl

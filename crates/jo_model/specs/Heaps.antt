@@ -3,7 +3,7 @@ use Rattle.std.specs.Prelude.{ℕ, ◌-◌, ◌<◌, List, [], ◌∷◌, ◌++�
 use Rattle.jo_value.specs.declared.value.ObjId.{ObjId}
 use Rattle.jo_model.specs.Objects.{Object, empty_object}
 
--- A heap is, for each pass from 0 on, the list of its objects: object number k of pass p is entry k of list p.
+-- A heap is, for each pass from 0 on, the list of its objects: the object with serial k of pass p is entry k of list p.
 abbrev pub Heap : Type 0
 Heap = List (List Object)
 

@@ -77,7 +77,7 @@ weave_from place heap (c ∷ changes) calls =
     ∷ weave_from (place + 1) (one heap c.pass c.call).0 changes calls
 
 -- The history of changes and of the placed calls of each pass: a call that is no change stands after as many
--- changes as its place says. At one place the calls go by number of pass, and then in the order of the pass.
+-- changes as its place says. At one place the calls go by pass, and then in the order of the pass.
 -- A placed call that is a change is not repeated: the entry at its place stands for it, with the reply of one thread.
 abbrev pub weave : List HeapChange → List (List PlacedCall) → History
 weave changes calls = weave_from 0 (heap_at_start (length calls)) changes calls

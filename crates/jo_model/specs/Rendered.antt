@@ -29,7 +29,7 @@ headed head begins [] = []
 headed head true (b ∷ lines) = head ++ b ∷ headed head (b == 10) lines
 headed head false (b ∷ lines) = b ∷ headed head (b == 10) lines
 
--- the printed lines of script number t, and the line of its outcome, by its word
+-- the printed lines of script t, and the line of its outcome, by its word
 abbrev pub run_text : ℕ → List ℕ → List ℕ → List ℕ
 run_text t lines word = headed (decimal t ++ codes "| ") true lines ++ decimal t ++ codes "= " ++ word ++ codes "\n"
 
@@ -55,6 +55,6 @@ object_line texts pass o =
     ++ joined (codes ", ") (map (element_text texts) o.1.elements ++ map (name_text texts) o.1.names)
     ++ codes "}\n"
 
--- the lines of all objects, in order of pass and number
+-- the lines of all objects, in order of pass and serial
 abbrev pub heap_text : Table → Heap → List ℕ
 heap_text texts heap = flat_map (λ p. flat_map (object_line texts p.0) (enumerate_from 0 p.1)) (enumerate_from 0 heap)

@@ -93,7 +93,7 @@ impl PlainHeap {
         self.passes.len() as u8
     }
 
-    /// The objects of a pass, in order of number; none of a pass that the heap has not.
+    /// The objects of a pass, in order of serial; none of a pass that the heap has not.
     pub fn objects_of(&self, pass: u8) -> &[PlainObject]
         ensures { result.now ≡ objects_of self.now pass }
     {

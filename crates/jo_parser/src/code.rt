@@ -1,4 +1,4 @@
-// Kinds of terminal, by number.
+// Kinds of terminal, each as a number.
 ghost use Rattle.std.specs.Prelude.{◌≡◌};
 ghost use Rattle.jo_grammar.specs.inner.Read as spec;
 

@@ -27,7 +27,7 @@ status_of verdict.Done = status.Done
 status_of verdict.Refused = status.Refused
 status_of verdict.TooLarge = status.TooLarge
 
--- the words are `run` alone, the one form that is accepted so far
+-- the words are `run` alone, the one command line that is accepted so far
 abbrev pub is_run : List (String Global) → Bool
 is_run (word ∷ []) = bytes_eq (string_bytes word) (codes "run")
 is_run _ = false
@@ -35,31 +35,31 @@ is_run _ = false
 abbrev pub usage_line : List ℕ
 usage_line = codes "usage: jsobj run [--stats] [--turns T] | make N | run-made N\n"
 
--- the input was read, to its end unless it is too large; this is said of it, and the text is due for it
-pub record IsAnswer (said : Verdict) (left left' : Option (List ℕ)) (text : List ℕ) : Type 0 where
+-- the input was read, to its end unless it is too large; this is said of it, and what is written is due for it
+pub record IsAnswer (said : Verdict) (left left' : Option (List ℕ)) (written : List ℕ) : Type 0 where
   pub bytes : List ℕ
   pub read : Consumes left left' bytes
   pub whole : (said ≡ verdict.TooLarge → ⊥) → IsAtEnd left'
   pub few : (said ≡ verdict.TooLarge → ⊥) → length bytes ≤ MOST_INPUT
-  pub due : IsDue said bytes text
+  pub due : IsDue said bytes written
 
--- other words were given, and the text is the usage line
-pub record IsUsage (words : List (String Global)) (text : List ℕ) : Type 0 where
+-- other words were given, and what is written is the usage line
+pub record IsUsage (words : List (String Global)) (written : List ℕ) : Type 0 where
   pub other : is_run words ≡ false
-  pub line : text ≡ usage_line
+  pub line : written ≡ usage_line
 
--- the text that is due for these words and this input
-abbrev pub IsDueText : List (String Global) → Option (List ℕ) → Option (List ℕ) → List ℕ → Type 0
-IsDueText words left left' text =
-    IsUsage words text ⊎ ((is_run words ≡ true) × (said : Verdict) × IsAnswer said left left' text)
+-- what is due for these words and this input
+abbrev pub IsDueOutput : List (String Global) → Option (List ℕ) → Option (List ℕ) → List ℕ → Type 0
+IsDueOutput words left left' written =
+    IsUsage words written ⊎ ((is_run words ≡ true) × (said : Verdict) × IsAnswer said left left' written)
 
--- a sink gained a text of which this holds
+-- a sink gained bytes of which this holds
 abbrev pub Writes : (List ℕ → Type 0) → Option (List ℕ) → Option (List ℕ) → Type 0
-Writes P held held' = (text : List ℕ) × P text × Appends held held' text
+Writes P held held' = (written : List ℕ) × P written × Appends held held' written
 
--- a sink gained the beginning of a text of which this holds, and not all of it
+-- a sink gained the beginning of bytes of which this holds, and not all of it
 abbrev pub WritesPart : (List ℕ → Type 0) → Option (List ℕ) → Option (List ℕ) → Type 0
-WritesPart P held held' = (text : List ℕ) × P text × AppendsPart held held' text
+WritesPart P held held' = (written : List ℕ) × P written × AppendsPart held held' written
 
 -- this is answered, or a fault, or want of memory
 abbrev pub IsUnlessFault : Status → Status → Type 0

@@ -1,4 +1,4 @@
-//! The program as a library: the top call, from words and an input to a status and a text, and what
+//! The program as a library: the top call, from words and an input to a status and an output, and what
 //! a process makes of it.
 #![tactic(auto)]
 

@@ -7,9 +7,9 @@ use std::process::ExitCode;
 /// How a run ended.
 #[derive(Clone, Copy, Debug, PartialEq)]
 pub enum Status {
-    /// All is well: the output text was written.
+    /// All is well: the output was written.
     Done,
-    /// The words are no form: the usage line was written.
+    /// The words are no command line of the program: the usage line was written.
     Usage,
     /// The input is no accepted set, or uses what is not built yet: the refusal line was written.
     Refused,
@@ -17,7 +17,7 @@ pub enum Status {
     TooLarge,
     /// A read failed: nothing was written.
     ReadFault,
-    /// A write failed: the beginning of the text was written, and not all of it.
+    /// A write failed: the beginning of the output was written, and not all of it.
     WriteFault,
     /// No memory was left: nothing was written.
     Memory,

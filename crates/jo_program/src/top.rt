@@ -5,7 +5,7 @@ ghost use Rattle.jo_value.specs.declared.limits.TheConstants.{MOST_INPUT};
 ghost use Rattle.jo_io.specs.Causes.{Counts};
 ghost use Rattle.jo_io.specs.Bytes.{ConsumesAtMost, AppendsPart};
 ghost use Rattle.jo_answer.specs.declared.due.Verdict.TheVariants as verdict;
-ghost use Rattle.jo_program.specs.Run.{is_run, status_of, IsAnswer, IsJudged, IsDueText, IsUsage, Writes, WritesPart};
+ghost use Rattle.jo_program.specs.Run.{is_run, status_of, IsAnswer, IsJudged, IsDueOutput, IsUsage, Writes, WritesPart};
 
 use crate::Status;
 use jo_answer::{Answer, Verdict, answer_to};
@@ -18,7 +18,7 @@ use std::thread::Threads;
 const USAGE_LINE: &[u8] = b"usage: jsobj run [--stats] [--turns T] | make N | run-made N\n";
 
 /// All that the program does: reads a set of scripts from the source, runs it, and writes its output
-/// text to the sink.
+/// to the sink.
 ///
 /// `words` are those after the program's name. The source and the sink may be any; what the clauses
 /// say of bytes they say of those that tell their bytes. The runtime is for the threads of scripts to come.
@@ -53,7 +53,7 @@ pub fn run<R: Threads + Wait + Sync, S: Source, K: Sink>(
     ensures write_fault { Counts (result ≡ Status.WriteFault)
         (K.faults sink.old) (K.faults sink.new) }
     ensures part { result ≡ Status.WriteFault
-        → WritesPart (IsDueText words.now (S.left source.old) (S.left source.new))
+        → WritesPart (IsDueOutput words.now (S.left source.old) (S.left source.new))
         (K.held sink.old) (K.held sink.new) }
     ensures unwritten { (result ≡ Status.ReadFault) ⊎ (result ≡ Status.Memory)
         → (is_run words.now ≡ true) × (sink.new ≡ sink.old) }
@@ -67,7 +67,7 @@ pub fn run<R: Threads + Wait + Sync, S: Source, K: Sink>(
         return finish(sink, USAGE_LINE, Status::Usage);
     }
     match answer_of(alloc, source) {
-        Ok(answer) => finish(sink, &answer.text, status_of(answer.verdict)),
+        Ok(answer) => finish(sink, &answer.output, status_of(answer.verdict)),
         Err(ReadError::Failed) => Status::ReadFault,
         Err(ReadError::Memory) => Status::Memory,
     }
@@ -82,10 +82,10 @@ fn is_run(words: &[String]) -> bool
     }
 }
 
-// Reads the input: what is said of it, and the text that is due for it.
+// Reads the input: what is said of it, and the output that is due for it.
 fn answer_of<S: Source>(alloc: Global, source: &mut S) -> Result<Answer, ReadError>
     ensures due { IfOk result (λ answer. IsAnswer answer.verdict
-        (S.left source.old) (S.left source.new) answer.text.items) }
+        (S.left source.old) (S.left source.new) answer.output.items) }
     ensures judged { IfOk result (λ answer.
         IfSome (S.left source.old) (IsJudged (status_of answer.verdict))) }
     ensures bound { ConsumesAtMost (S.left source.old) (S.left source.new) (MOST_INPUT + 1) }
@@ -109,17 +109,17 @@ fn status_of(verdict: Verdict) -> Status
     }
 }
 
-// Writes a text and answers the status, or the fault of writing.
-fn finish<K: Sink>(sink: &mut K, text: &[u8], status: Status) -> Status
+// Writes an output and answers the status, or the fault of writing.
+fn finish<K: Sink>(sink: &mut K, output: &[u8], status: Status) -> Status
     requires { status ≢ Status.WriteFault }
     ensures answer { (result ≡ status) ⊎ (result ≡ Status.WriteFault) }
     ensures written { result ≢ Status.WriteFault
-        → Appends (K.held sink.old) (K.held sink.new) text.now }
+        → Appends (K.held sink.old) (K.held sink.new) output.now }
     ensures part { result ≡ Status.WriteFault
-        → AppendsPart (K.held sink.old) (K.held sink.new) text.now }
+        → AppendsPart (K.held sink.old) (K.held sink.new) output.now }
     ensures cause { Counts (result ≡ Status.WriteFault) (K.faults sink.old) (K.faults sink.new) }
 {
-    match write_all(sink, text) {
+    match write_all(sink, output) {
         Ok(()) => status,
         Err(Failed) => Status::WriteFault,
     }

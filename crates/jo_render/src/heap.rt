@@ -1,4 +1,4 @@
-// The text of all objects: a line for each, in order of pass and serial.
+// All objects: a line for each, in order of pass and serial.
 ghost use Rattle.std.specs.Prelude.{◌≡◌, ◌++◌, OnOk};
 ghost use Rattle.std.specs.List.{enumerate_from, flat_map};
 ghost use Rattle.jo_model.specs.Rendered.{object_line, heap_text};
@@ -10,7 +10,7 @@ use std::alloc::{AllocError, Global};
 
 /// Puts the lines of all objects at the end, in order of pass and serial.
 ///
-/// After an `Err` nothing is promised of the text.
+/// After an `Err` nothing is promised of the output.
 pub fn add_heap(
     alloc: Global,
     output: &mut Vec<u8>,

@@ -1,4 +1,4 @@
-//! The text of a value, and the output text of a run.
+//! Values and the output of a run, as bytes.
 #![tactic(auto)]
 
 mod heap;

@@ -1,4 +1,4 @@
-// The part of one script in the output text: its lines, and the line of its outcome.
+// The part of one script in the output: its lines, and the line of its outcome.
 ghost use Rattle.std.specs.Prelude.{◌≡◌, ◌++◌, ◌∷◌, [], true, OnOk, if◌then◌else◌};
 ghost use Rattle.jo_model.specs.Rendered.{headed, outcome_text, run_text};
 
@@ -7,7 +7,7 @@ use std::alloc::{AllocError, Global};
 
 /// Puts the printed lines of a script, each closed by a line feed, and its outcome at the end.
 ///
-/// After an `Err` nothing is promised of the text.
+/// After an `Err` nothing is promised of the output.
 pub fn add_run(
     alloc: Global,
     output: &mut Vec<u8>,

@@ -1,4 +1,4 @@
-// The text of values in a line. Each call puts it at the end of a text.
+// Values in a line. Each call puts them at the end of an output.
 ghost use Rattle.std.specs.Prelude.{◌≡◌, ◌++◌, OnOk, codes, map};
 ghost use Rattle.jo_model.specs.Printed.{object_text, value_text, line_of};
 ghost use Rattle.jo_render.specs.inner.Fragments.{each_after};
@@ -6,9 +6,9 @@ ghost use Rattle.jo_render.specs.inner.Fragments.{each_after};
 use jo_value::{ObjId, Texts, Value};
 use std::alloc::{AllocError, Global};
 
-/// Puts the text of a value at the end. A text that the table lacks is empty.
+/// Puts a value at the end. A text that the table lacks is empty.
 ///
-/// After an `Err` nothing is promised of the text.
+/// After an `Err` nothing is promised of the output.
 pub fn add_value(
     alloc: Global,
     output: &mut Vec<u8>,
@@ -39,7 +39,7 @@ fn add_object_name(alloc: Global, output: &mut Vec<u8>, object: ObjId) -> Result
 
 /// Puts the line that values print at the end, without its end.
 ///
-/// After an `Err` nothing is promised of the text.
+/// After an `Err` nothing is promised of the output.
 pub fn add_line(
     alloc: Global,
     output: &mut Vec<u8>,

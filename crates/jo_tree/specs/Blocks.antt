@@ -1,4 +1,4 @@
--- Which names a block declares. A name stands as the number of its text.
+-- Which names a block declares. A name stands as the id of its text.
 use Rattle.std.specs.Prelude.{ℕ, List, [], ◌∷◌, ◌++◌}
 use Rattle.jo_tree.specs.Trees.{Binding, Head, declares, begins, Items, no_items, declare, perform}
 

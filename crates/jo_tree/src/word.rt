@@ -6,7 +6,7 @@ use jo_value::TextId;
 /// A word that is not reserved.
 #[derive(Clone, Copy)]
 pub struct Ident {
-    /// Its number in the table of texts.
+    /// Its id in the table of texts.
     pub text: TextId,
     /// The bytes that stand before it in the input.
     pub place: u32,
@@ -17,7 +17,7 @@ pub struct Ident {
 /// A text literal.
 #[derive(Clone, Copy)]
 pub struct Literal {
-    /// The number, in the table of texts, of what it stands for.
+    /// The id of the text that it stands for.
     pub text: TextId,
     /// Whether it stands for `__proto__`.
     pub is_proto: bool,
@@ -28,9 +28,9 @@ pub struct Literal {
 pub enum Name {
     /// A word that is not reserved.
     Ident(Ident),
-    /// A reserved word that the grammar names. Its number is that of its text in the table.
+    /// A reserved word that the grammar names. Its id is that of its text in the table.
     Keyword(Keyword),
-    /// Any other reserved word, by its number in the table of texts.
+    /// Any other reserved word, by its id in the table of texts.
     Reserved(TextId),
 }
 

@@ -16,7 +16,7 @@ abbrev pub is_same_bool : Bool → Bool → Bool
 is_same_bool true b = b
 is_same_bool false b = not b
 
--- `===` (ECMA-262, IsStrictlyEqual): numbers and texts by value, where a text's number stands for it, and objects by identity
+-- `===` (ECMA-262, IsStrictlyEqual): numbers and texts by value, where a text's id stands for it, and objects by identity
 abbrev pub is_strictly_equal : Value → Value → Bool
 is_strictly_equal value.Undefined value.Undefined = true
 is_strictly_equal value.Null value.Null = true

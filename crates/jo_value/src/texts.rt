@@ -7,7 +7,7 @@ use std::alloc::{AllocError, Global};
 use std::marker::Model;
 use thiserror::Error;
 
-/// Why a text did not get a number.
+/// Why a text did not get an id.
 #[derive(Clone, Copy, Debug, PartialEq, Eq, Drop, Error)]
 pub enum InternFault {
     /// No memory was left for the text.
@@ -28,7 +28,7 @@ impl From<AllocError> for InternFault {
     }
 }
 
-/// A table of texts. A text's number is its place in the table, from 0, and interning gives equal texts one number.
+/// A table of texts. A text's id is its place in the table, from 0, and interning gives equal texts one id.
 ///
 /// Contracts see the list of the texts, each as its bytes.
 #[derive(Drop)]
@@ -61,7 +61,7 @@ impl Texts {
         }
     }
 
-    /// The number of an equal text that is there, or the next number for a new one.
+    /// The id of an equal text that is there, or the next id for a new one.
     /// After an `Err` the table is as before.
     pub fn intern(&mut self, text: &str) -> Result<TextId, InternFault>
         ensures id { IfOk result (λ id. id.0 ≡ id_in self.old text.now) }
@@ -81,7 +81,7 @@ impl Texts {
         Ok(TextId(next as u16))
     }
 
-    /// The number of the text, where it is there.
+    /// The id of the text, where it is there.
     pub fn id_of(&self, text: &str) -> Option<TextId>
         ensures some { IfSome result (λ id. id.0 ≡ id_in self.now text.now) }
         ensures within { IfSome result (λ id. id.0 < length self.now) }

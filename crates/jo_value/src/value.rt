@@ -1,10 +1,10 @@
 // What a variable or a property of a script holds, and what names a property.
 
-/// The number of a text in its table.
+/// The id of a text, which is its place in the table.
 #[derive(Clone, Copy, Debug, PartialEq, Eq)]
 pub struct TextId(pub u16);
 
-/// The number, in its table, of a text that is no array index.
+/// The id of a text that is no array index.
 #[derive(Clone, Copy, Debug, PartialEq, Eq)]
 pub struct NameId(pub u16);
 

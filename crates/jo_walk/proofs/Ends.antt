@@ -67,7 +67,7 @@ no_numeral : (text : List ℕ) → is_word text ≡ true → numeral text ≡ No
 no_numeral [] w = refl
 no_numeral (b ∷ text) w = no_more (b == 48 && not (is_empty text)) _ (no_digits (is_digit b) _ w)
 
--- it is the key by its number
+-- it is the key by its id
 key_named : (id : ℕ) (text : Option (List ℕ)) → is_word (unwrap_or text []) ≡ true → key_of_text id text ≡ Ok (Name (record { 0 = id }))
 key_named id None w = absurd (true≢false (sym w))
 key_named id (Some text) w = ap (key_by id) (no_numeral text w)

@@ -39,7 +39,7 @@ IsAmong n known = list_any (eqb n) known ≡ true
 abbrev AreAmong : List ℕ → List ℕ → Type 0
 AreAmong names known = (n : ℕ) → IsAmong n names → IsAmong n known
 
--- a number stays where others are added, and one that is added is there
+-- an id stays where others are added, and one that is added is there
 stays : (there : Bool) (numbers : List ℕ) (m n : ℕ) → IsAmong n numbers → IsAmong n (if there then numbers else numbers ++ m ∷ [])
 stays true numbers m n h = h
 stays false numbers m n h = list_any-append (eqb n) numbers (m ∷ []) ∙ or_left (list_any (eqb n) numbers) (list_any (eqb n) (m ∷ [])) h
@@ -60,7 +60,7 @@ add_all (m ∷ names) numbers n h = elim (or_cases (eqb n m) (list_any (eqb n) n
   | inr after ↦ add_all names (with_number numbers m) n after
 ]
 
--- no number is lost where each is kept once
+-- no id is lost where each is kept once
 once : (names : List ℕ) → AreAmong names (each_once names)
 once names n h = add_all names [] n h
 

@@ -42,7 +42,7 @@ abbrev pub next : List Terminal → List Terminal
 next [] = []
 next (c ∷ r) = r
 
--- a number for each punctuator, keyword and kind of token
+-- a code for each punctuator, keyword and kind of token
 abbrev pub punct_code : Punct → ℕ
 punct_code p.OpenBrace = 0
 punct_code p.CloseBrace = 1

@@ -1,4 +1,4 @@
--- Fragments of the output text.
+-- Fragments of the output.
 use Rattle.std.specs.Prelude.{ℕ, ◌==◌, ◌||◌, List, [], ◌∷◌, ◌++◌, codes, map, flat_map, if◌then◌else◌}
 use Rattle.jo_value.specs.Texts.{Table}
 use Rattle.jo_model.specs.Objects.{Object}
