@@ -114,8 +114,8 @@ module _ (texts : Table) where
   suits_head d (begins e) h = suits_optional d e (front texts (optional d e) _ h)
 
   -- what stands in round brackets
-  inside : (d : ℕ) (m after : List Mark) → AreFine texts (bracketed d m ++ after) → AreFine texts m
-  inside d m after h = front texts m _ (after texts _ _ (front texts (bracketed d m) after h))
+  inside : (d : ℕ) (m rest : List Mark) → AreFine texts (bracketed d m ++ rest) → AreFine texts m
+  inside d m rest h = front texts m _ (after texts _ _ (front texts (bracketed d m) rest h))
 
   -- ---- statements
 

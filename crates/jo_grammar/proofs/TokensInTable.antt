@@ -99,7 +99,7 @@ piece-range c cs =
 
 -- the table with more texts after
 abbrev pub Extends : Table → Table → Type 0
-Extends texts after = (after : Table) × (after ≡ texts ++ after)
+Extends texts after = (more : Table) × (after ≡ texts ++ more)
 
 pub extends-itself : (texts : Table) → Extends texts texts
 extends-itself texts = ([], sym (append-nil texts))
@@ -142,7 +142,7 @@ abbrev IsGoodFound : Table → Option (TokenKind × Table) → Type 0
 IsGoodFound texts None = Unit {0}
 IsGoodFound texts (Some found) = IsGoodKind (length found.1) found.0 × Extends texts found.1
 
-identified-good : (of : TextId → TokenKind) (texts : Table) (bytes : List ℕ) → ((n : ℕ) (id : TextId) → id.0 < n → IsGoodKind n (of id)) → IsGoodFound texts (numbered of texts bytes)
+identified-good : (of : TextId → TokenKind) (texts : Table) (bytes : List ℕ) → ((n : ℕ) (id : TextId) → id.0 < n → IsGoodKind n (of id)) → IsGoodFound texts (identified of texts bytes)
 identified-good of texts bytes good = step (is_one_too_many texts bytes)
   where
     step : (b : Bool) → IsGoodFound texts (if b then None else Some (of (record { 0 = id_in texts bytes }), interned texts bytes))

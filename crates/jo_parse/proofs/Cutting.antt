@@ -72,13 +72,13 @@ separated : (whole from rest line after input : List ℕ) (start : ℕ) (parts :
     → parts ++ (record { start = start; input = input } ∷ sections_from (length whole - length after) [] (lines_of after)) ≡ sections_of whole
 separated whole from rest line after input start parts h lines split is place e =
     let here : length whole - length from ≡ start = omega arith in
-    let after : start + length input + length line ≡ length whole - length after = omega (arith, ap length e, length-append input rest, ap length split, length-append line after) in
+    let further : start + length input + length line ≡ length whole - length after = omega (arith, ap length e, length-append input rest, ap length split, length-append line after) in
     let ls = lines_of after in
     sym (ap (λ n. parts ++ sections_from n h.front (lines_of rest)) here
     ∙ ap (λ t. parts ++ sections_from start t (lines_of rest)) (ended-input whole from rest input parts h e)
     ∙ ap (λ t. parts ++ sections_from start input t) lines
     ∙ ap (λ ps. parts ++ ps) (from-separator start input line ls is)
-    ∙ ap (λ n. parts ++ (record { start = start; input = input } ∷ sections_from n [] ls)) after)
+    ∙ ap (λ n. parts ++ (record { start = start; input = input } ∷ sections_from n [] ls)) further)
     ∙ h.goes_on
 
 -- a separator, where one more script may begin
