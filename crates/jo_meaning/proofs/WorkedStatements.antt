@@ -229,22 +229,22 @@ pub names_of_no_object_are_a_type_fault : after (all (print_names (natural 1) �
 names_of_no_object_are_a_type_fault = refl
 
 -- what a statement does where so many bytes were printed, at these replies
-abbrev full_before : ℕ → Statement → List Reply → Run
-full_before n statement replies =
+abbrev after_printing : ℕ → Statement → List Reply → Run
+after_printing n statement replies =
     follow (executes texts [] statement (ends outcome.Done) (ends outcome.Done) (ends outcome.Done)
     (record { turns = 0; variables = λ x. value.Undefined; lines = replicate n 120 })) replies
 
 -- print("ab");
-pub a_line_that_fills_the_room_is_kept : full_before 262141 (show (text 11)) [] ≡ done [] (replicate 262141 120 ++ codes "ab\n")
+pub a_line_that_fills_the_room_is_kept : after_printing 262141 (show (text 11)) [] ≡ done [] (replicate 262141 120 ++ codes "ab\n")
 a_line_that_fills_the_room_is_kept = refl
 
 pub one_byte_more_is_output_full_and_the_lines_before_are_kept :
-    full_before 262142 (show (text 11)) [] ≡ ended outcome.OutputFull [] 0 (replicate 262142 120)
+    after_printing 262142 (show (text 11)) [] ≡ ended outcome.OutputFull [] 0 (replicate 262142 120)
 one_byte_more_is_output_full_and_the_lines_before_are_kept = refl
 
 -- printNames(shared);
 pub names_without_room_are_output_full_after_their_call :
-    full_before 262144 (print_names shared_word) (reply.Names [] ∷ []) ≡ ended outcome.OutputFull (call.Names shared ∷ []) 0 (replicate 262144 120)
+    after_printing 262144 (print_names shared_word) (reply.Names [] ∷ []) ≡ ended outcome.OutputFull (call.Names shared ∷ []) 0 (replicate 262144 120)
 names_without_room_are_output_full_after_their_call = refl
 
 -- ---- ends

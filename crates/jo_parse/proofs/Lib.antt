@@ -7,3 +7,4 @@ pub mod Within
 pub mod Lines
 pub mod Cutting
 pub mod Bounds
+pub mod Whole

@@ -1,0 +1,36 @@
+-- What the stages of the reader show together.
+use Rattle.std.proofs.Common.{◌≡◌, ◌∙◌, ◌≤◌, ap, subst, ℕ, false, List, [], length, arith}
+use Rattle.std.proofs.lemmas.List.{length-map}
+use Rattle.std.specs.Prelude.{IsUtf8}
+use Rattle.jo_value.specs.declared.limits.TheConstants.{MOST_SCRIPTS}
+use Rattle.jo_value.specs.Texts.{Table}
+use Rattle.jo_lex.specs.declared.token.Token.{Token}
+use Rattle.jo_lex.specs.declared.refusal.ParseFault.{ParseFault}
+use Rattle.jo_grammar.specs.Cuts.{sections_of}
+use Rattle.jo_grammar.specs.Sets.{AreRead, IsCut, IsLexed, is_nothing}
+use Rattle.jo_parse.specs.declared.section.Section.{Section as Held}
+use Rattle.jo_parse.specs.Parsed.{IsFault}
+use Rattle.jo_parse.specs.inner.CutScripts.{section_of, sections_in}
+use Rattle.jo_parse.specs.inner.Stages.{IsTokensFault}
+use Rattle.jo_parse.proofs.Faults.{tokens_fault}
+
+module _ (bytes input : List ℕ) (sections held : List Held) (utf8 : IsUtf8 bytes) (same : input ≡ bytes)
+    (cut : sections_in sections ≡ sections_of input) (few : length sections ≤ MOST_SCRIPTS) (slice : held ≡ sections) where
+  these : sections_in held ≡ sections_of bytes
+  these = ap sections_in slice ∙ cut ∙ ap sections_of same
+
+  pub is_cut : IsCut bytes
+  is_cut = record {
+    utf8 = utf8;
+    few = subst (λ v. length v ≤ MOST_SCRIPTS) (cut ∙ ap sections_of same) (omega (arith, few, length-map sections section_of));
+  }
+
+  pub is_lexed : (lists : List (List Token)) (texts : Table) → AreRead [] (sections_in held) lists texts → is_nothing lists ≡ false → IsLexed bytes lists texts
+  is_lexed lists texts read something = record {
+    cut = is_cut;
+    read = subst (λ v. AreRead [] v lists texts) these read;
+    something = something;
+  }
+
+  pub tokens_refused : (fault : ParseFault) → IsTokensFault (sections_in held) fault → IsFault bytes fault
+  tokens_refused fault h = tokens_fault bytes fault is_cut (subst (λ v. IsTokensFault v fault) these h)
