@@ -22,7 +22,7 @@ fn put(texts: &Texts, assign: &Assign) -> Option<Step>
 }
 
 fn assignment(texts: &Texts, assign: &Assign) -> Option<Step>
-    ensures { result ≡ spec.step_of texts.now (run (assign_tree assign.now)) }
+    ensures { result ≡ spec.step_of texts.now (evaluate (assign_tree assign.now)) }
 {
     match assign.operator {
         AssignOperator::Set => put(texts, assign),
@@ -33,7 +33,7 @@ fn assignment(texts: &Texts, assign: &Assign) -> Option<Step>
 
 #[tactic(auto, using(crate::proofs::Trees::trees))]
 fn run(texts: &Texts, expr: &Expr) -> Option<Step>
-    ensures { result ≡ spec.step_of texts.now (run (expr_tree expr.now)) }
+    ensures { result ≡ spec.step_of texts.now (evaluate (expr_tree expr.now)) }
 {
     match expr {
         Expr::Assign(assign) => assignment(texts, assign.get()),
