@@ -1,6 +1,6 @@
 // Statements that are steps.
 ghost use Rattle.std.specs.Prelude.{◌≡◌, IfOk, Some};
-ghost use Rattle.jo_tree.specs.Trees.{run, print};
+ghost use Rattle.jo_tree.specs.Trees.{evaluate, print};
 ghost use Rattle.jo_tree.specs.Views.{assign_tree, expr_tree, target_tree};
 ghost use Rattle.jo_tree.specs.ScriptViews.{items_with, statement_tree, trees_list};
 ghost use Rattle.jo_form.specs.Forms as spec;
@@ -32,7 +32,7 @@ fn assignment(texts: &Texts, assign: &Assign) -> Option<Step>
 }
 
 #[tactic(auto, using(crate::proofs::Trees::trees))]
-fn run(texts: &Texts, expr: &Expr) -> Option<Step>
+fn evaluate(texts: &Texts, expr: &Expr) -> Option<Step>
     ensures { result ≡ spec.step_of texts.now (evaluate (expr_tree expr.now)) }
 {
     match expr {
@@ -83,7 +83,7 @@ fn step_of(alloc: Global, texts: &Texts, statement: &Statement) -> Result<Option
     ensures { IfOk result (λ step. step ≡ spec.step_of texts.now (statement_tree statement.now)) }
 {
     match statement {
-        Statement::Expr(expr) => Ok(run(texts, expr.get())),
+        Statement::Expr(expr) => Ok(evaluate(texts, expr.get())),
         Statement::Print(exprs) => print(alloc, texts, exprs.as_slice()),
         _ => Ok(None),
     }
