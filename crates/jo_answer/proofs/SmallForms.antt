@@ -1,7 +1,7 @@
 -- The form of an accepted set is small: its numbers are in range, no print is of nothing, and it prints at most as many values as the set has bytes.
 use Rattle.std.proofs.Common.{◌≡◌, ℕ, suc, ◌+◌, ◌≤◌, ℤ, List, [], ◌∷◌, ◌++◌, true, Option, Some, None, refl, sym, ap, ◌∙◌, length, subst, arith, length-append}
 use Rattle.std.specs.Prelude.{pos}
-use Rattle.std.proofs.lemmas.Option.{none-some, cond_some}
+use Rattle.std.proofs.lemmas.Option.{none-some}
 use Rattle.jo_value.specs.declared.limits.TheConstants.{MOST_INPUT, MOST_OPEN}
 use Rattle.jo_value.specs.declared.value.NameId.{NameId}
 use Rattle.jo_value.specs.Texts.{Table}
@@ -25,24 +25,9 @@ use Rattle.jo_grammar.proofs.SetsAreSound.{sets_are_sound}
 use Rattle.jo_form.specs.declared.form.TheConstants.{MOST_FORM_BYTES}
 use Rattle.jo_form.specs.declared.form.Step.{Step}
 use Rattle.jo_form.specs.declared.form.Step.TheVariants as step
-use Rattle.jo_form.specs.Forms.{number_in, with_front, shared_name, shared_names, put_of, print_of, step_of, steps_of, has_few_names, unless_many, form_of}
+use Rattle.jo_form.proofs.Fronts.{inside, front, few_steps, few_names}
+use Rattle.jo_form.specs.Forms.{number_in, shared_name, shared_names, put_of, print_of, step_of, steps_of, form_of}
 use Rattle.jo_walk.specs.Small.{IsNumber, PutNumbers, PrintSomething, count_of_printed, AreSmall}
-
-inside : {A : Type 0} (x y : A) → Some x ≡ Some y → x ≡ y
-inside x y e = (cond_some true x y e).1
-
--- what is in front, and the others
-record Front {A : Type 0} (x : Option A) (xs : Option (List A)) (all : List A) : Type 0 where
-  first : A
-  others : List A
-  is_first : x ≡ Some first
-  are_others : xs ≡ Some others
-  joined : first ∷ others ≡ all
-
-front : {A : Type 0} (x : Option A) (xs : Option (List A)) (all : List A) → with_front x xs ≡ Some all → Front x xs all
-front (Some x) (Some xs) all h = record { first = x; others = xs; is_first = refl; are_others = refl; joined = inside _ _ h }
-front (Some x) None all h = absurd (none-some all h)
-front None xs all h = absurd (none-some all h)
 
 -- ---- steps
 
@@ -109,14 +94,6 @@ steps_small texts d (perform s rest) steps suits h =
     let k = step_small texts d (length (items d rest)) s f.first f.others suits.0 f.is_first (steps_small texts d rest f.others suits.1 f.are_others) in
     subst (AreBounded (length (items d (perform s rest)))) f.joined
     (subst (λ n. AreBounded n (f.first ∷ f.others)) (sym (length-append (statement d s) (items d rest))) k)
-
-few_steps : (o : Option (List Step)) (steps : List Step) → unless_many o ≡ Some steps → o ≡ Some steps
-few_steps None steps h = h
-few_steps (Some l) steps h = ap Some (cond_some (has_few_names l) l steps h).1
-
-few_names : (o : Option (List Step)) (steps : List Step) → unless_many o ≡ Some steps → has_few_names steps ≡ true
-few_names None steps h = absurd (none-some steps h)
-few_names (Some l) steps h = let c = cond_some (has_few_names l) l steps h in subst (λ x. has_few_names x ≡ true) c.1 c.0
 
 -- ---- marks
 

@@ -17,14 +17,14 @@ use Rattle.jo_grammar.specs.NameRefusals as judged
 use Rattle.jo_grammar.specs.NameRefusals.{refusal_for}
 use Rattle.jo_grammar.specs.Cuts.{sections_of}
 use Rattle.jo_grammar.specs.Sets.{IsFirstUnread, IsFirstMisspelled, IsCut, IsLexed, IsParsed, IsRefusal, IsRefusalOf, faults_of_all}
-use Rattle.jo_parse.specs.Parsed.{IsFault}
+use Rattle.jo_parse.specs.Parsed.{IsSetFault}
 use Rattle.jo_parse.specs.inner.CutScripts.{IsCutFault}
 use Rattle.jo_parse.specs.inner.Stages.{IsNothing, IsTokensFault, IsTreeFault, IsFirstNameFault}
 use Rattle.jo_parse.proofs.LexFaults.{IsLexKind, is_lex_kind}
 
 -- ---- sections
 
-pub cut_fault : (bytes : List ℕ) (fault : ParseFault) → IsUtf8 bytes → IsCutFault bytes fault → IsFault bytes fault
+pub cut_fault : (bytes : List ℕ) (fault : ParseFault) → IsUtf8 bytes → IsCutFault bytes fault → IsSetFault bytes fault
 cut_fault bytes Memory utf8 h = tt
 cut_fault bytes (Refused refusal) utf8 (kind, many) = subst (λ k. IsRefusalOf bytes k refusal) (sym kind) (utf8, many)
 
@@ -43,7 +43,7 @@ nothing : (bytes : List ℕ) (refusal : Refusal) → IsCut bytes → IsNothing (
 nothing bytes refusal cut (lists, texts, read, is, e) =
     subst (IsRefusal bytes) (sym e) (cut, lists, texts, read, is, refl)
 
-pub tokens_fault : (bytes : List ℕ) (fault : ParseFault) → IsCut bytes → IsTokensFault (sections_of bytes) fault → IsFault bytes fault
+pub tokens_fault : (bytes : List ℕ) (fault : ParseFault) → IsCut bytes → IsTokensFault (sections_of bytes) fault → IsSetFault bytes fault
 tokens_fault bytes Memory cut h = tt
 tokens_fault bytes (Refused refusal) cut (inl h) = read_fault bytes refusal cut h
 tokens_fault bytes (Refused refusal) cut (inr h) = nothing bytes refusal cut h
@@ -60,7 +60,7 @@ misspelled : (bytes : List ℕ) (lists : List (List Token)) (texts : Table) (ref
 misspelled bytes lists texts refusal unexpected l h = (lists, texts, l, h)
 misspelled bytes lists texts refusal too_deep l h = (lists, texts, l, h)
 
-pub tree_fault : (bytes : List ℕ) (lists : List (List Token)) (texts : Table) (fault : ParseFault) → IsLexed bytes lists texts → IsTreeFault texts lists fault → IsFault bytes fault
+pub tree_fault : (bytes : List ℕ) (lists : List (List Token)) (texts : Table) (fault : ParseFault) → IsLexed bytes lists texts → IsTreeFault texts lists fault → IsSetFault bytes fault
 tree_fault bytes lists texts Memory l h = tt
 tree_fault bytes lists texts (Refused refusal) l h =
     let f = fault_of texts lists refusal h in
@@ -74,7 +74,7 @@ named : (bytes : List ℕ) (scripts : List Items) (texts : Table) (refusal : Ref
 named bytes scripts texts refusal found undeclared p first e = (scripts, texts, p, found, first, e)
 named bytes scripts texts refusal found twice p first e = (scripts, texts, p, found, first, e)
 
-pub name_fault : (bytes : List ℕ) (scripts : List Items) (texts : Table) (fault : ParseFault) → IsParsed bytes scripts texts → IsFirstNameFault scripts fault → IsFault bytes fault
+pub name_fault : (bytes : List ℕ) (scripts : List Items) (texts : Table) (fault : ParseFault) → IsParsed bytes scripts texts → IsFirstNameFault scripts fault → IsSetFault bytes fault
 name_fault bytes scripts texts Memory p h = tt
 name_fault bytes scripts texts (Refused refusal) p (found, first, e) =
     subst (λ k. IsRefusalOf bytes k refusal) (sym (ap (λ v. v.kind) e)) (named bytes scripts texts refusal found found.0 p first e)

@@ -9,7 +9,7 @@ use Rattle.jo_lex.specs.declared.refusal.ParseFault.{ParseFault}
 use Rattle.jo_grammar.specs.Cuts.{sections_of}
 use Rattle.jo_grammar.specs.Sets.{AreRead, IsCut, IsLexed, is_nothing}
 use Rattle.jo_parse.specs.declared.section.Section.{Section as Held}
-use Rattle.jo_parse.specs.Parsed.{IsFault}
+use Rattle.jo_parse.specs.Parsed.{IsSetFault}
 use Rattle.jo_parse.specs.inner.CutScripts.{section_of, sections_in}
 use Rattle.jo_parse.specs.inner.Stages.{IsTokensFault}
 use Rattle.jo_parse.proofs.Faults.{tokens_fault}
@@ -32,5 +32,5 @@ module _ (bytes input : List ℕ) (sections held : List Held) (utf8 : IsUtf8 byt
     something = something;
   }
 
-  pub tokens_refused : (fault : ParseFault) → IsTokensFault (sections_in held) fault → IsFault bytes fault
+  pub tokens_refused : (fault : ParseFault) → IsTokensFault (sections_in held) fault → IsSetFault bytes fault
   tokens_refused fault h = tokens_fault bytes fault is_cut (subst (λ v. IsTokensFault v fault) these h)

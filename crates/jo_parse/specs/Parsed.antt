@@ -18,11 +18,11 @@ abbrev pub trees_of : Parsed → List Items
 trees_of set = map script_tree set.0
 
 -- want of memory, or the refusal of the bytes
-abbrev pub IsFault : List ℕ → ParseFault → Type 0
-IsFault bytes = IsMemoryOr (IsRefusal bytes)
+abbrev pub IsSetFault : List ℕ → ParseFault → Type 0
+IsSetFault bytes = IsMemoryOr (IsRefusal bytes)
 
 -- the answer is these scripts with this table, unless memory fails
-abbrev pub Gives : List Items → Table → Result Parsed ParseFault → Type 0
-Gives scripts texts (Ok set) = (trees_of set ≡ scripts) × (set.1 ≡ texts)
-Gives scripts texts (Err Memory) = Unit {0}
-Gives scripts texts (Err (Refused refusal)) = ⊥
+abbrev pub GivesSet : List Items → Table → Result Parsed ParseFault → Type 0
+GivesSet scripts texts (Ok set) = (trees_of set ≡ scripts) × (set.1 ≡ texts)
+GivesSet scripts texts (Err Memory) = Unit {0}
+GivesSet scripts texts (Err (Refused refusal)) = ⊥

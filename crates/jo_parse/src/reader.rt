@@ -6,7 +6,7 @@ ghost use Rattle.jo_lex.specs.declared.refusal.Refusal.{Refusal};
 ghost use Rattle.jo_lex.specs.Faults.{Refuses};
 ghost use Rattle.jo_tree.specs.Trees.{Items};
 ghost use Rattle.jo_grammar.specs.Sets.{IsRefusal, IsAcceptedSet};
-ghost use Rattle.jo_parse.specs.Parsed.{Gives, IsFault, trees_of};
+ghost use Rattle.jo_parse.specs.Parsed.{GivesSet, IsSetFault, trees_of};
 
 use crate::lex::lex;
 use crate::named::judge_all;
@@ -21,7 +21,7 @@ use std::alloc::Global;
 fn read(alloc: Global, bytes: &[u8]) -> Result<ScriptSet, ParseFault>
     requires { length bytes.now ≤ MOST_INPUT }
     ensures ok { IfOk result (λ set. IsAcceptedSet bytes.now (trees_of set) set.1) }
-    ensures refused { IfErr result (IsFault bytes.now) }
+    ensures refused { IfErr result (IsSetFault bytes.now) }
 {
     let input = decode(bytes)?;
     let sections = cut(alloc, input)?;
@@ -38,8 +38,8 @@ fn read(alloc: Global, bytes: &[u8]) -> Result<ScriptSet, ParseFault>
 pub fn parse_set(alloc: Global, bytes: &[u8]) -> Result<ScriptSet, ParseFault>
     requires { length bytes.now ≤ MOST_INPUT }
     ensures ok { IfOk result (λ set. IsAcceptedSet bytes.now (trees_of set) set.1) }
-    ensures refused { IfErr result (IsFault bytes.now) }
-    ensures complete { (scripts : List Items) (texts : Table) → IsAcceptedSet bytes.now scripts texts → Gives scripts texts result }
+    ensures refused { IfErr result (IsSetFault bytes.now) }
+    ensures complete { (scripts : List Items) (texts : Table) → IsAcceptedSet bytes.now scripts texts → GivesSet scripts texts result }
     ensures first { (refusal : Refusal) → IsRefusal bytes.now refusal → Refuses refusal result }
 {
     read(alloc, bytes)

@@ -1,7 +1,7 @@
 // From bytes to characters.
 ghost use Rattle.std.specs.Prelude.{◌≡◌, ◌≤◌, length, IfErr, IfOk, IsUtf8};
 ghost use Rattle.jo_value.specs.declared.limits.TheConstants.{MOST_INPUT};
-ghost use Rattle.jo_parse.specs.Parsed.{IsFault};
+ghost use Rattle.jo_parse.specs.Parsed.{IsSetFault};
 
 use jo_lex::{ParseFault, Refusal, RefusalKind};
 
@@ -10,7 +10,7 @@ pub(crate) fn decode(bytes: &[u8]) -> Result<&str, ParseFault>
     requires { length bytes.now ≤ MOST_INPUT }
     ensures same { IfOk result (λ input. input.now ≡ bytes.now) }
     ensures ok { IfOk result (λ _. IsUtf8 bytes.now) }
-    ensures refused { IfErr result (IsFault bytes.now) }
+    ensures refused { IfErr result (IsSetFault bytes.now) }
 {
     match str::from_utf8(bytes) {
         Ok(input) => Ok(input),

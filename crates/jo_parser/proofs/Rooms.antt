@@ -14,7 +14,7 @@ given : Reading ℕ → ℕ
 given (Ok p) = p.0
 given (Err e) = 0
 
-first : (inner n : ℕ) (r s : List Terminal) → (let x : Reading ℕ = Ok (inner, r) in x ≡ Ok (n, s)) → inner ≡ n
+pub first : (inner n : ℕ) (r s : List Terminal) → (let x : Reading ℕ = Ok (inner, r) in x ≡ Ok (n, s)) → inner ≡ n
 unfolding given
 first inner n r s e = ap given e
 

@@ -7,22 +7,14 @@ use Rattle.jo_tree.specs.Trees.{Items, declare, perform}
 use Rattle.jo_tree.specs.ScriptViews.{let_list, statement_tree, items_list}
 use Rattle.jo_tree.proofs.Shapes.{shapes}
 use Rattle.jo_tree.proofs.ScriptShapes.{script_shapes, bindings_list-push, trees_list-push}
-use Rattle.jo_grammar.specs.inner.Read.{Reading, open_at, peek, next}
+use Rattle.jo_grammar.specs.inner.Read.{open_at, peek, next}
 use Rattle.jo_grammar.specs.inner.ReadStatements.{read_statement, statement_at, with_item, item_at, item_then, script_from}
 use Rattle.jo_grammar.specs.Refusals.{unexpected}
 use Rattle.jo_parser.specs.inner.ScriptOutcomes.{within, item_view}
 use Rattle.jo_parser.proofs.Parts.{else-in-parts}
-use Rattle.jo_parser.proofs.Rooms.{open-less}
+use Rattle.jo_parser.proofs.Rooms.{first, open-less}
 
 -- ---- how deep
-
-given : Reading ℕ → ℕ
-given (Ok p) = p.0
-given (Err e) = 0
-
-first : (inner n : ℕ) (r s : List Terminal) → (let x : Reading ℕ = Ok (inner, r) in x ≡ Ok (n, s)) → inner ≡ n
-unfolding given
-first inner n r s e = ap given e
 
 pub open-within : (room inner : ℕ) (ts r : List Terminal) → open_at room ts ≡ Ok (inner, r) → within room ≡ read_statement inner
 open-within zero inner ts r e = cc

@@ -31,14 +31,12 @@ use Rattle.jo_meaning.specs.Histories.{IsHistoryOf, played_alone}
 use Rattle.jo_meaning.specs.Keys.{numeral, key_by, key_of_text, name_id}
 use Rattle.jo_meaning.specs.Values.{is_empty}
 use Rattle.jo_meaning.proofs.Alone.{history_of_script, heap_alone, lines_alone, entries_of-play}
-use Rattle.jo_form.specs.Forms.{number_in, with_front, is_word, shared_name, shared_names, put_of, print_of, step_of, steps_of, has_few_names, unless_many, form_of}
+use Rattle.jo_form.proofs.Fronts.{inside, front, few_steps}
+use Rattle.jo_form.specs.Forms.{number_in, is_word, shared_name, shared_names, put_of, print_of, step_of, steps_of, form_of}
 use Rattle.jo_form.specs.declared.form.Step.{Step}
 use Rattle.jo_form.specs.declared.form.Step.TheVariants as step
 use Rattle.jo_walk.specs.Alone.{IsRunAlone}
 use Rattle.jo_walk.specs.inner.Walks.{Stage, value_in, values_in, after_call, after_line, after_step, after_steps, unless_ended}
-
-inside : {A : Type 0} (x y : A) → Some x ≡ Some y → x ≡ y
-inside x y e = (cond_some true x y e).1
 
 -- what the run of pass 1 leaves
 abbrev pub end_of : Interaction → Heap → Stage
@@ -82,19 +80,6 @@ read_end texts environment (member (constant keyword.Shared) (field word no_acce
     ap (λ k. end_of (unless_fault k (λ k. asks (call.Get shared k) (λ reply. next (found_in reply))) s) heap) (key_named id (slice_get texts id) named.0)
     ∙ ap (λ n. end_of (next (value_in heap n) s) heap) named.1
 read_end texts environment _ name next s heap h = absurd (none-some name h)
-
--- what is in front, and the others
-record Front {A : Type 0} (x : Option A) (xs : Option (List A)) (all : List A) : Type 0 where
-  first : A
-  others : List A
-  is_first : x ≡ Some first
-  are_others : xs ≡ Some others
-  joined : first ∷ others ≡ all
-
-front : {A : Type 0} (x : Option A) (xs : Option (List A)) (all : List A) → with_front x xs ≡ Some all → Front x xs all
-front (Some x) (Some xs) all h = record { first = x; others = xs; is_first = refl; are_others = refl; joined = inside _ _ h }
-front (Some x) None all h = absurd (none-some all h)
-front None xs all h = absurd (none-some all h)
 
 reads_end : (texts : Table) (environment : Environment) (es : List Tree) (names : List NameId) (next : List Value → Next) (s : State) (heap : Heap) → shared_names texts es ≡ Some names →
     end_of (evaluates_each texts environment es next s) heap ≡ end_of (next (values_in heap names) s) heap
@@ -192,10 +177,6 @@ steps_end texts environment (perform statement items) steps broken continued h =
     step_end texts environment statement f.first (executes_all texts environment items (ends outcome.Done) broken continued) broken continued (after_steps texts f.others) s heap f.is_first
     (steps_end texts environment items f.others broken continued f.are_others)
     ∙ ap (λ l. after_steps texts l heap s.lines) f.joined
-
-few_steps : (o : Option (List Step)) (steps : List Step) → unless_many o ≡ Some steps → o ≡ Some steps
-few_steps None steps h = h
-few_steps (Some l) steps h = ap Some (cond_some (has_few_names l) l steps h).1
 
 end_alone : (script : Items) (texts : Table) (turns : ℕ) (steps : List Step) → form_of texts script ≡ Some steps →
     end_of (interaction_of script texts turns) (heap_at_start 2) ≡ after_steps texts steps (heap_at_start 2) []

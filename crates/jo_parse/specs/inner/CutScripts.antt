@@ -1,5 +1,5 @@
 -- What the code answers where it cuts a set.
-use Rattle.std.specs.Prelude.{◌≡◌, List, map}
+use Rattle.std.specs.Prelude.{◌≡◌, ℕ, List, map}
 use Rattle.jo_lex.specs.declared.refusal.RefusalKind.TheVariants.{TooManyScripts}
 use Rattle.jo_lex.specs.declared.refusal.ParseFault.{ParseFault}
 use Rattle.jo_lex.specs.declared.refusal.ParseFault.TheVariants.{Refused}

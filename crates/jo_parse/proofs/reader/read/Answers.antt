@@ -15,7 +15,7 @@ use Rattle.jo_parse.proofs.reader.read.Goals as goal
 pub lex-requires : goal.lex-requires
 lex-requires c =
     let within = within_more (length c.in_ok-input.input.now) MOST_INPUT (sections_in c.in_ok-sections.sections.items)
-      (omega (arith, c.requires, ap length c.in_ok-input.ensures.same)) c.in_ok-sections.ensures.within in
+    (omega (arith, c.requires, ap length c.in_ok-input.ensures.same)) c.in_ok-sections.ensures.within in
     subst (λ v. AreWithin MOST_INPUT (sections_in v)) (sym c.as_slice.ensures.value) within
 
 lexed-is : (c : goal.In_ok-lexed) → IsLexed c.args.bytes.now (lists_of c.in_ok-lexed.lexed.lists.items) c.in_ok-lexed.lexed.texts
