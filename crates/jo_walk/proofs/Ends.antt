@@ -1,7 +1,7 @@
 -- The run of a script of the form, alone, leaves what its steps do.
 use Rattle.std.proofs.Common.{◌≡◌, ℕ, ◌+◌, ℤ, List, [], ◌∷◌, ◌++◌, Bool, true, false, not, Option, Some, None, refl, sym, ap, ◌∙◌, length, subst, true≢false}
 use Rattle.std.specs.Prelude.{if◌then◌else◌, nat_le, slice_get, unwrap_or, Ok, ◌&&◌, ◌==◌}
-use Rattle.std.proofs.lemmas.Option.{none-some, cond_some}
+use Rattle.std.proofs.lemmas.Option.{none-some, cond_some, unwrap_or-slice_get}
 use Rattle.jo_value.specs.Texts.{Table, text_in, is_digit}
 use Rattle.jo_value.specs.declared.limits.TheConstants.{MOST_LINE_BYTES}
 use Rattle.jo_value.specs.declared.value.NameId.{NameId}
@@ -70,6 +70,9 @@ key_named : (id : ℕ) (text : Option (List ℕ)) → is_word (unwrap_or text []
 key_named id None w = absurd (true≢false (sym w))
 key_named id (Some text) w = ap (key_by id) (no_numeral text w)
 
+found_word : (texts : Table) (id : ℕ) → is_word (text_in texts id) ≡ true → is_word (unwrap_or (slice_get texts id) []) ≡ true
+found_word texts id w = subst (λ t. is_word t ≡ true) (sym (unwrap_or-slice_get texts id [])) w
+
 -- ---- reads
 
 read_end : (texts : Table) (environment : Environment) (e : Tree) (name : NameId) (next : Value → Next) (s : State) (heap : Heap) → shared_name texts e ≡ Some name →
@@ -77,7 +80,7 @@ read_end : (texts : Table) (environment : Environment) (e : Tree) (name : NameId
 read_end texts environment (member (constant keyword.Shared) (field word no_accesses)) name next s heap h =
     let id = name_id texts word in
     let named = cond_some (is_word (text_in texts id)) (record { 0 = id }) name h in
-    ap (λ k. end_of (unless_fault k (λ k. asks (call.Get shared k) (λ reply. next (found_in reply))) s) heap) (key_named id (slice_get texts id) named.0)
+    ap (λ k. end_of (unless_fault k (λ k. asks (call.Get shared k) (λ reply. next (found_in reply))) s) heap) (key_named id (slice_get texts id) (found_word texts id named.0))
     ∙ ap (λ n. end_of (next (value_in heap n) s) heap) named.1
 read_end texts environment _ name next s heap h = absurd (none-some name h)
 
@@ -149,7 +152,7 @@ put_end texts environment (member (constant keyword.Shared) (field word no_acces
     let target : Tree = member (constant keyword.Shared) (field word no_accesses) in
     let p = put_number texts (is_word (text_in texts id)) name value of h in
     ap (λ v. end_of (executes texts environment (evaluate (assign assign_op.Set target v)) next broken continued s) heap) p.is_number
-    ∙ ap (λ k. end_of (unless_fault k (λ k. asks (call.Put shared k (Int p.i)) (λ reply. next)) s) heap) (key_named id (slice_get texts id) p.word)
+    ∙ ap (λ k. end_of (unless_fault k (λ k. asks (call.Put shared k (Int p.i)) (λ reply. next)) s) heap) (key_named id (slice_get texts id) (found_word texts id p.word))
     ∙ refused_end (one heap 1 (call.Put shared (Name name) (Int p.i))).1 next rest s (one heap 1 (call.Put shared (Name name) (Int p.i))).0 leaves
     ∙ ap (λ x. goes_on (after_step texts x heap s.lines) rest) p.is
 put_end texts environment _ value of next broken continued rest s heap h leaves = absurd (none-some of h)

@@ -19,7 +19,7 @@ use Rattle.jo_form.specs.declared.form.Step.{Step}
 use Rattle.jo_form.specs.declared.form.Step.TheVariants as step
 use Rattle.jo_walk.specs.Small.{IsNumber, PutNumbers, count_of_printed, PrintSomething, AreSmall}
 use Rattle.jo_walk.specs.inner.Walks.{Stage, value_in, values_in, after_line, after_steps, unless_ended}
-use Rattle.jo_walk.proofs.FewNames.{heap_with, made, after_call, few_names_end}
+use Rattle.jo_walk.proofs.FewNames.{heap_with, made, from_call, few_names_end}
 
 -- ---- values
 
@@ -86,7 +86,7 @@ Fits s = is_full s.outcome ≡ false
 -- a put leaves values that are short, where it is not refused
 put_fits : (texts : Table) (steps : List Step) (there full : Bool) (o : Object) (objects pass : List Object) (passes : Heap) (name : NameId) (v : Value) (lines : List ℕ) →
     AreShort texts o.names → IsShort texts v → ((x : Object) → AreShort texts x.names → Fits (after_steps texts steps (heap_with x objects pass passes) lines)) →
-    Fits (after_call texts steps lines (made there full o objects pass passes name v))
+    Fits (from_call texts steps lines (made there full o objects pass passes name v))
 put_fits texts steps true full o objects pass passes name v lines all short goes = goes (with_value o (Name name) v) (short_set texts o.names (name_place o name) (name, v) short all)
 put_fits texts steps false true o objects pass passes name v lines all short goes = refl
 put_fits texts steps false false o objects pass passes name v lines all short goes = goes (with_property o (Name name) v) (short_push texts o.names (name, v) short all)

@@ -154,15 +154,15 @@ made there full o objects pass passes name v =
     else (heap_with (with_property o (Name name) v) objects pass passes, reply.Done))
 
 -- what is left after a call, and the steps after it
-abbrev pub after_call : Table → List Step → List ℕ → Heap × Reply → Stage
-after_call texts steps lines p =
+abbrev pub from_call : Table → List Step → List ℕ → Heap × Reply → Stage
+from_call texts steps lines p =
     unless_ended (after_call lines p).outcome (after_call lines p) (after_steps texts steps (after_call lines p).heap (after_call lines p).lines)
 
 -- a put of a small object is done
 put_ends : (texts : Table) (steps : List Step) (known : List ℕ) (there full : Bool) (o : Object) (objects pass : List Object) (passes : Heap) (name : NameId) (v : Value) (lines : List ℕ) →
     has_property o (Name name) ≡ there → is_full_for o (Name name) ≡ full → IsAmong name.0 known → length known ≤ MOST_NAMES → IsSmall known o →
     ((x : Object) → IsSmall known x → EndsWell (after_steps texts steps (heap_with x objects pass passes) lines)) →
-    EndsWell (after_call texts steps lines (made there full o objects pass passes name v))
+    EndsWell (from_call texts steps lines (made there full o objects pass passes name v))
 put_ends texts steps known true full o objects pass passes name v lines h f among most small goes = goes (with_value o (Name name) v) (small_with_value known o name v h small)
 put_ends texts steps known false true o objects pass passes name v lines h f among most small goes =
     let full : MOST_NAMES ≤ length o.names = leb-true MOST_NAMES (length o.names) f in
