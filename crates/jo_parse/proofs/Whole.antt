@@ -1,18 +1,19 @@
 -- What the stages of the reader show together.
-use Rattle.std.proofs.Common.{◌≡◌, ◌∙◌, ◌≤◌, ap, subst, ℕ, false, List, [], length, arith}
+use Rattle.std.proofs.Common.{◌≡◌, ◌∙◌, ◌≤◌, ap, subst, ℕ, false, List, [], Vec, length, arith}
 use Rattle.std.proofs.lemmas.List.{length-map}
 use Rattle.std.specs.Prelude.{IsUtf8}
 use Rattle.jo_value.specs.declared.limits.TheConstants.{MOST_SCRIPTS}
 use Rattle.jo_value.specs.Texts.{Table}
 use Rattle.jo_lex.specs.declared.token.Token.{Token}
 use Rattle.jo_lex.specs.declared.refusal.ParseFault.{ParseFault}
+use Rattle.jo_tree.specs.Trees.{Items}
 use Rattle.jo_grammar.specs.Cuts.{sections_of}
-use Rattle.jo_grammar.specs.Sets.{AreRead, IsCut, IsLexed, is_nothing}
+use Rattle.jo_grammar.specs.Sets.{AreRead, AreScripts, IsCut, IsLexed, IsParsed, is_nothing}
 use Rattle.jo_parse.specs.declared.section.Section.{Section as Held}
 use Rattle.jo_parse.specs.Parsed.{IsSetFault}
 use Rattle.jo_parse.specs.inner.CutScripts.{section_of, sections_in}
-use Rattle.jo_parse.specs.inner.Stages.{IsTokensFault}
-use Rattle.jo_parse.proofs.Faults.{tokens_fault}
+use Rattle.jo_parse.specs.inner.Stages.{IsTokensFault, IsTreeFault, lists_of}
+use Rattle.jo_parse.proofs.Faults.{tokens_fault, tree_fault}
 
 module _ (bytes input : List ℕ) (sections held : List Held) (utf8 : IsUtf8 bytes) (same : input ≡ bytes)
     (cut : sections_in sections ≡ sections_of input) (few : length sections ≤ MOST_SCRIPTS) (slice : held ≡ sections) where
@@ -34,3 +35,16 @@ module _ (bytes input : List ℕ) (sections held : List Held) (utf8 : IsUtf8 byt
 
   pub tokens_refused : (fault : ParseFault) → IsTokensFault (sections_in held) fault → IsSetFault bytes fault
   tokens_refused fault h = tokens_fault bytes fault is_cut (subst (λ v. IsTokensFault v fault) these h)
+
+  module _ {Z : Type 0} (lists slices : List (Vec Token Z)) (texts : Table) (view : slices ≡ lists)
+      (read : AreRead [] (sections_in held) (lists_of lists) texts) (something : is_nothing (lists_of lists) ≡ false) where
+    pub is_parsed : (scripts : List Items) → AreScripts texts (lists_of slices) scripts → IsParsed bytes scripts texts
+    is_parsed scripts spelled = record {
+      lists = lists_of lists;
+      lexed = is_lexed (lists_of lists) texts read something;
+      spelled = subst (λ v. AreScripts texts (lists_of v) scripts) view spelled;
+    }
+
+    pub trees_refused : (fault : ParseFault) → IsTreeFault texts (lists_of slices) fault → IsSetFault bytes fault
+    trees_refused fault h =
+        tree_fault bytes (lists_of lists) texts fault (is_lexed (lists_of lists) texts read something) (subst (λ v. IsTreeFault texts (lists_of v) fault) view h)
