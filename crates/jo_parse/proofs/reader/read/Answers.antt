@@ -16,7 +16,7 @@ use Rattle.jo_parse.proofs.reader.read.Goals as goal
 pub lex-requires : goal.lex-requires
 lex-requires c =
     let within = within_more (length c.in_ok-input.input.now) MOST_INPUT (sections_in c.in_ok-sections.sections.items)
-      (omega (arith, c.requires, ap length c.in_ok-input.ensures.same)) c.in_ok-sections.ensures.within in
+    (omega (arith, c.requires, ap length c.in_ok-input.ensures.same)) c.in_ok-sections.ensures.within in
     subst (λ v. AreWithin MOST_INPUT (sections_in v)) (sym c.as_slice.ensures.value) within
 
 pub returns-in_err-sections-clause-refused : goal.returns-in_err-sections-clause-refused
