@@ -1,14 +1,16 @@
 -- What the stages of the reader show together.
-use Rattle.std.proofs.Common.{◌≡◌, ◌∙◌, ◌≤◌, ap, subst, ℕ, false, List, [], Vec, length, arith}
+use Rattle.std.proofs.Common.{◌≡◌, ◌∙◌, ◌≤◌, ap, subst, ℕ, false, List, [], Vec, length, map, arith}
 use Rattle.std.proofs.lemmas.List.{length-map}
 use Rattle.std.specs.Prelude.{IsUtf8}
 use Rattle.jo_value.specs.declared.limits.TheConstants.{MOST_SCRIPTS}
 use Rattle.jo_value.specs.Texts.{Table}
 use Rattle.jo_lex.specs.declared.token.Token.{Token}
 use Rattle.jo_lex.specs.declared.refusal.ParseFault.{ParseFault}
+use Rattle.jo_tree.specs.declared.script.Script.{Script}
+use Rattle.jo_tree.specs.ScriptViews.{script_tree}
 use Rattle.jo_tree.specs.Trees.{Items}
 use Rattle.jo_grammar.specs.Cuts.{sections_of}
-use Rattle.jo_grammar.specs.Sets.{AreRead, AreScripts, IsCut, IsLexed, IsParsed, is_nothing}
+use Rattle.jo_grammar.specs.Sets.{AreRead, AreScripts, IsAcceptedSet, IsCut, IsLexed, IsParsed, faults_of_all, is_nothing}
 use Rattle.jo_parse.specs.declared.section.Section.{Section as Held}
 use Rattle.jo_parse.specs.Parsed.{IsSetFault}
 use Rattle.jo_parse.specs.inner.CutScripts.{section_of, sections_in}
@@ -48,3 +50,10 @@ module _ (bytes input : List ℕ) (sections held : List Held) (utf8 : IsUtf8 byt
     pub trees_refused : (fault : ParseFault) → IsTreeFault texts (lists_of slices) fault → IsSetFault bytes fault
     trees_refused fault h =
         tree_fault bytes (lists_of lists) texts fault (is_lexed (lists_of lists) texts read something) (subst (λ v. IsTreeFault texts (lists_of v) fault) view h)
+
+    pub is_accepted : (scripts judged : List Script) → judged ≡ scripts → AreScripts texts (lists_of slices) (map script_tree scripts)
+        → faults_of_all (map script_tree judged) ≡ [] → IsAcceptedSet bytes (map script_tree scripts) texts
+    is_accepted scripts judged view-judged spelled named = record {
+      parsed = is_parsed (map script_tree scripts) spelled;
+      named = subst (λ v. faults_of_all (map script_tree v) ≡ []) view-judged named;
+    }

@@ -3,13 +3,13 @@ use Rattle.std.proofs.lemmas.List.{length-map}
 use Rattle.jo_value.specs.declared.limits.TheConstants.{MOST_INPUT, MOST_SCRIPTS}
 use Rattle.jo_tree.specs.ScriptViews.{script_tree}
 use Rattle.jo_grammar.specs.Cuts.{AreWithin}
-use Rattle.jo_grammar.specs.Sets.{IsAcceptedSet, IsParsed, faults_of_all}
+use Rattle.jo_grammar.specs.Sets.{IsAcceptedSet, IsParsed}
 use Rattle.jo_grammar.proofs.SetsAreSound.{sets_are_few, sets_are_sound}
 use Rattle.jo_parse.specs.Parsed.{IsSetFault}
 use Rattle.jo_parse.specs.inner.CutScripts.{IsCutFault, sections_in}
 use Rattle.jo_parse.specs.inner.Stages.{IsFirstNameFault}
 use Rattle.jo_parse.proofs.Faults.{cut_fault, name_fault}
-use Rattle.jo_parse.proofs.Whole.{is_parsed, tokens_refused, trees_refused}
+use Rattle.jo_parse.proofs.Whole.{is_accepted, is_parsed, tokens_refused, trees_refused}
 use Rattle.jo_parse.proofs.Within.{within_more}
 use Rattle.jo_parse.proofs.reader.read.Goals as goal
 
@@ -56,26 +56,25 @@ returns-in_err-judge_all-clause-refused c =
     name_fault bytes scripts lexed.texts fault parsed (subst (λ v. IsFirstNameFault (map script_tree v) fault) c.as_slice-3.ensures.value c.in_err-judge_all.ensures.refused) in
     search rules
 
-accepted : (c : goal.In_ok-judge_all) → IsAcceptedSet c.args.bytes.now (map script_tree c.in_ok-scripts.scripts.items) c.in_ok-lexed.lexed.texts
-accepted c =
-    let lexed = c.in_ok-lexed.lexed in
-    let scripts = map script_tree c.in_ok-scripts.scripts.items in record {
-      parsed =
-          is_parsed c.args.bytes.now c.in_ok-input.input.now c.in_ok-sections.sections.items c.as_slice.result.now c.in_ok-input.ensures.ok c.in_ok-input.ensures.same
-          c.in_ok-sections.ensures.ok c.in_ok-sections.ensures.few c.as_slice.ensures.value lexed.lists.items c.as_slice-2.result.now lexed.texts c.as_slice-2.ensures.value
-          c.in_ok-lexed.ensures.ok c.in_ok-lexed.ensures.something scripts c.in_ok-scripts.ensures.ok;
-      named = subst (λ v. faults_of_all (map script_tree v) ≡ []) c.as_slice-3.ensures.value c.in_ok-judge_all.ensures.ok;
-    }
-
 pub returns-clause-ok : goal.returns-clause-ok
-returns-clause-ok c = accepted c
+returns-clause-ok c =
+    is_accepted c.args.bytes.now c.in_ok-input.input.now c.in_ok-sections.sections.items c.as_slice.result.now c.in_ok-input.ensures.ok c.in_ok-input.ensures.same
+    c.in_ok-sections.ensures.ok c.in_ok-sections.ensures.few c.as_slice.ensures.value c.in_ok-lexed.lexed.lists.items c.as_slice-2.result.now c.in_ok-lexed.lexed.texts
+    c.as_slice-2.ensures.value c.in_ok-lexed.ensures.ok c.in_ok-lexed.ensures.something c.in_ok-scripts.scripts.items c.as_slice-3.result.now c.as_slice-3.ensures.value
+    c.in_ok-scripts.ensures.ok c.in_ok-judge_all.ensures.ok
 
 pub invariant_of-result : goal.invariant_of-result
 invariant_of-result c =
     let bytes = c.args.bytes.now in
+    let texts = c.in_ok-lexed.lexed.texts in
     let scripts = c.in_ok-scripts.scripts.items in
-    let few = sets_are_few bytes (map script_tree scripts) c.in_ok-lexed.lexed.texts (accepted c) in
+    let set : IsAcceptedSet bytes (map script_tree scripts) texts =
+    is_accepted c.args.bytes.now c.in_ok-input.input.now c.in_ok-sections.sections.items c.as_slice.result.now c.in_ok-input.ensures.ok c.in_ok-input.ensures.same
+    c.in_ok-sections.ensures.ok c.in_ok-sections.ensures.few c.as_slice.ensures.value c.in_ok-lexed.lexed.lists.items c.as_slice-2.result.now c.in_ok-lexed.lexed.texts
+    c.as_slice-2.ensures.value c.in_ok-lexed.ensures.ok c.in_ok-lexed.ensures.something c.in_ok-scripts.scripts.items c.as_slice-3.result.now c.as_slice-3.ensures.value
+    c.in_ok-scripts.ensures.ok c.in_ok-judge_all.ensures.ok in
+    let few = sets_are_few bytes (map script_tree scripts) texts set in
     let same : length (map script_tree scripts) ≡ length scripts = length-map scripts script_tree in
     let most : length scripts ≤ MOST_SCRIPTS = omega (arith, few.1, same) in
     let least : 1 ≤ length scripts = omega (arith, few.0, same) in
-    (least, most, sets_are_sound bytes (map script_tree scripts) c.in_ok-lexed.lexed.texts c.requires (accepted c))
+    (least, most, sets_are_sound bytes (map script_tree scripts) texts c.requires set)
