@@ -1,4 +1,4 @@
--- The output text of a script that ran alone.
+-- The output of a script that ran alone.
 use Rattle.std.proofs.Common.{◌≡◌, ℕ, List, [], ◌∷◌, ◌++◌, refl, sym, ap, subst, ◌∙◌}
 use Rattle.std.proofs.lemmas.List.{append-nil}
 use Rattle.jo_value.specs.Texts.{Table}
@@ -23,7 +23,7 @@ stand_alone script texts turns w o of_script =
     let same : o ≡ run.0 = cc (run.1) in
     run.2.ended ∙ ap Ended (sym same)
 
--- the text of its lines and its outcome, and then that of the objects
+-- its lines and its outcome as they are written, and then the objects
 pub output_alone : (script : Items) (texts : Table) (heap : Heap) (lines : List ℕ) (o : Outcome) (start first text : List ℕ)
     → IsRunAlone script texts DEFAULT_TURNS heap lines o → o ≡ Done
     → start ≡ [] → first ≡ start ++ run_text 1 lines (outcome_text o) → text ≡ first ++ heap_text texts heap → IsOutputOf script texts text

@@ -62,7 +62,7 @@ a_print_of_nothing_is_no_form = refl
 pub an_empty_statement_is_no_form : form_of texts (alone empty) ≡ None
 an_empty_statement_is_no_form = refl
 
--- ---- output texts
+-- ---- outputs
 
 -- one script alone: its line, its outcome and the object
 pub the_first_script_writes_three_lines :

@@ -1,4 +1,4 @@
-//! What is due for an input: the output of its scripts, or a line that says why it is not run.
+//! What is due for an input: the output of its script, or a line that says why it is not run.
 #![tactic(auto)]
 
 mod due;

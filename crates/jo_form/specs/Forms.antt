@@ -79,12 +79,12 @@ module _ (texts : Table) where
 
 -- ---- few names
 
--- the numbers of the names in a step, in order of place
+-- the ids of the names in a step, in order of place
 abbrev pub names_in : Step → List ℕ
 names_in (step.Put name i) = name.0 ∷ []
 names_in (step.Print names) = map (λ name. name.0) names
 
--- the numbers with one more, which goes last where it is new
+-- the ids with one more, which goes last where it is new
 abbrev pub with_number : List ℕ → ℕ → List ℕ
 with_number numbers n = if list_any (λ other. n == other) numbers then numbers else numbers ++ n ∷ []
 
@@ -101,6 +101,6 @@ abbrev pub unless_many : Option (List Step) → Option (List Step)
 unless_many None = None
 unless_many (Some steps) = if has_few_names steps then Some steps else None
 
--- the steps of a script of the form, or nothing where it has another form
+-- the steps of a script of the form, or nothing where it is not of the form
 abbrev pub form_of : Table → Items → Option (List Step)
 form_of texts script = unless_many (steps_of texts script)

@@ -1,4 +1,4 @@
-// The form of a script.
+// Whether a script is of the form.
 ghost use Rattle.std.specs.Prelude.{◌≡◌, IfOk};
 ghost use Rattle.std.specs.Option.{option_map};
 ghost use Rattle.jo_tree.specs.ScriptViews.{items_list, script_tree};
@@ -26,7 +26,7 @@ fn steps_of(alloc: Global, texts: &Texts, items: &[Item]) -> Result<Option<Items
     Ok(Some(steps))
 }
 
-/// The form of a script with these texts, or `None` where it has another form.
+/// A script with these texts as its steps, or `None` where it is not of the form.
 pub fn form_of(alloc: Global, script: &Script, texts: &Texts) -> Result<Option<Form>, AllocError>
     ensures { IfOk result (λ form. option_map (λ f. f.steps) form ≡ form_of texts.now (script_tree script.now)) }
 {

@@ -1,4 +1,4 @@
--- What is answered for a whole text.
+-- What is answered for the whole of the terminals.
 use Rattle.std.proofs.Common.{◌≡◌, ℕ, List, [], ◌∷◌, ◌++◌, Result, Ok, Err, refl, ap}
 use Rattle.jo_grammar.specs.declared.terminal.Terminal.{Terminal}
 use Rattle.jo_grammar.specs.Refusals.{Language, IsAccepted, Fault, IsRefused}

@@ -1,4 +1,4 @@
--- A text gets one answer: where it is accepted it is not refused, and it is refused in one way at one place.
+-- Terminals get one answer: where they are accepted they are not refused, and they are refused in one way at one place.
 use Rattle.std.proofs.Common.{◌≡◌, ◌⊎◌, inl, inr, ℕ, ◌+◌, ◌≤◌, ◌<◌, List, [], ◌∷◌, ◌++◌, Result, Ok, Err, refl, sym, ◌∙◌, ap, subst, append_assoc, arith, length, length-append}
 use Rattle.jo_grammar.specs.declared.terminal.Terminal.{Terminal}
 use Rattle.jo_grammar.specs.Expressions.{Mark}
@@ -46,11 +46,11 @@ within-whole limit (a ∷ x) m y k = within-whole limit x m y k.1
 -- ---- answers
 
 module _ {A : Type 0} (L : Language A) (limit : ℕ) where
-  -- the tokens that a text begins with
+  -- the terminals that a spelling begins with
   begins-terms : (before : List Terminal) (c : Terminal) (s : List Terminal) (b : BeginsWithin L limit (before ++ c ∷ s)) → terms (b.1 ++ b.2) ≡ before ++ c ∷ (s ++ terms b.2)
   begins-terms before c s b = terms-append b.1 b.2 ∙ (ap (λ v. v ++ terms b.2) b.4 ∙ append_assoc before (c ∷ s) (terms b.2))
 
-  -- no text goes on past a refusal
+  -- no spelling goes on past a refusal
   never-past : (before : List Terminal) (c : Terminal) (r s : List Terminal) → Never L before (c ∷ r) → BeginsWithin L limit (before ++ c ∷ s) → ⊥
   never-past before c r s h b = h (b.0, s ++ terms b.2, (b.1 ++ b.2, b.3, begins-terms before c s b ∙ sym (append_assoc before (c ∷ []) (s ++ terms b.2))))
 
@@ -68,7 +68,7 @@ module _ {A : Type 0} (L : Language A) (limit : ℕ) where
   deep-begins before [] h = elim h [ ]
   deep-begins before (c ∷ r) h = (h.0, h.1, (c, h.2) ∷ h.3, h.4, h.5, h.6)
 
-  -- where a token may stand that opens too many, it is not unexpected
+  -- where a terminal may stand that opens too many, it is not unexpected
   never-deep : (before r : List Terminal) → Never L before r → OpensTooMany L limit before r → ⊥
   never-deep before [] h k = elim k [ ]
   never-deep before (c ∷ r) h k =
@@ -106,14 +106,14 @@ module _ {A : Type 0} (L : Language A) (limit : ℕ) where
       (blocked-once f g h.0 r h.3 b, same.1)
   same-place f g ts r s h k (inr (inr longer)) = absurd (blocked-past g k.0 s h.0 k.3 h.2 longer)
 
-  -- a text is refused in one way and at one place
+  -- terminals are refused in one way and at one place
   pub refused-once : (f g : Fault) (ts r s : List Terminal) → IsRefused L limit f ts r → IsRefused L limit g ts s → (f ≡ g) × (r ≡ s)
   refused-once f g ts r s h k =
       let a = parts f ts r h in
       let b = parts g ts s k in
       same-place f g ts r s a b (compared a.0 r b.0 s (sym a.1 ∙ b.1))
 
-  -- a text that keeps within the limit is not refused
+  -- a spelling that keeps within the limit is not refused
   pub kept-not-refused : (f : Fault) (ts r : List Terminal) (a : A) (m : List Mark) → L a m → terms m ≡ ts → Within limit m → IsRefused L limit f ts r → ⊥
   kept-not-refused unexpected ts [] a m k e w h = h.3 a (m, k, e ∙ (h.1 ∙ list-end h.0))
   kept-not-refused unexpected ts (c ∷ r) a m k e w h = h.3 (a, r, (m, k, e ∙ (h.1 ∙ sym (append_assoc h.0 (c ∷ []) r))))
@@ -130,14 +130,14 @@ module _ {A : Type 0} (L : Language A) (limit : ℕ) where
   pub accepted-once : (ts : List Terminal) (a b : A) → IsAccepted L limit ts a → IsAccepted L limit ts b → a ≡ b
   accepted-once ts a b h k = k.4 a (h.0, h.1, h.2)
 
-  -- there is one answer for a text
+  -- there is one answer for terminals
   pub answer-once : (ts : List Terminal) (x y : Result A (Fault × List Terminal)) → Answers L limit ts x → Answers L limit ts y → x ≡ y
   answer-once ts (Ok a) (Ok b) h k = ap (λ v. Ok v) (accepted-once ts a b h k)
   answer-once ts (Ok a) (Err f) h k = absurd (accepted-not-refused f.0 ts f.1 a h k)
   answer-once ts (Err f) (Ok b) h k = absurd (accepted-not-refused f.0 ts f.1 b k h)
   answer-once ts (Err f) (Err g) h k = let e = refused-once f.0 g.0 ts f.1 g.1 h k in ap (λ v. Err (v, f.1)) e.0 ∙ ap (λ v. Err (g.0, v)) e.1
 
-  -- and for a text that keeps within the limit it is its tree
+  -- and for a spelling that keeps within the limit it is its tree
   pub answer-kept : (ts : List Terminal) (a : A) (m : List Mark) → L a m → terms m ≡ ts → Within limit m → (x : Result A (Fault × List Terminal)) → Answers L limit ts x → x ≡ Ok a
   answer-kept ts a m k e w (Ok b) h = ap (λ v. Ok v) (sym (h.4 a (m, k, e)))
   answer-kept ts a m k e w (Err f) h = absurd (kept-not-refused f.0 ts f.1 a m k e w h)

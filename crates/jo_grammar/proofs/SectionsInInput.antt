@@ -1,4 +1,4 @@
--- The sections of a input: each is a input, and none is longer than the whole.
+-- The sections of an input: each is UTF-8 where the input is, and none is longer than the whole.
 use Rattle.std.proofs.Common.{◌≡◌, ℕ, ◌+◌, ◌≤◌, ◌==◌, Bool, true, false, List, [], ◌∷◌, ◌++◌, length, if◌then◌else◌, get_or, refl, sym, ap, subst, ◌∙◌, arith, append_assoc, append-nil, length-append, take_at, drop_at}
 use Rattle.std.proofs.Math.Seq.{get_or-append_seam}
 use Rattle.std.proofs.lemmas.Bool.{eqb-true}
@@ -56,7 +56,7 @@ abbrev AreTexts : List (List ℕ) → Type 0
 AreTexts [] = Unit {0}
 AreTexts (line ∷ lines) = IsUtf8 line × AreTexts lines
 
--- after a line feed a input may be cut
+-- after a line feed an input may be cut
 cut-after : (front rest : List ℕ) → IsUtf8 ((front ++ 10 ∷ []) ++ rest) → IsUtf8 (front ++ 10 ∷ []) × IsUtf8 rest
 cut-after front rest u =
     let line = front ++ 10 ∷ [] in
@@ -79,9 +79,9 @@ lines-texts (line ∷ lines) h u =
     let parts = first-input line lines h.0 u in
     (parts.0, lines-texts lines h.1 parts.1)
 
--- ---- scripts
+-- ---- sections
 
--- each section is a input of at most so many bytes
+-- each section is UTF-8 of at most so many bytes
 abbrev pub AreShort : ℕ → List Section → Type 0
 AreShort most [] = Unit {0}
 AreShort most (section ∷ sections) = IsUtf8 section.input × (length section.input ≤ most) × AreShort most sections

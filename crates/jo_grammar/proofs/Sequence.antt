@@ -1,4 +1,4 @@
--- What is answered for a whole text in two parts, of which the first is read exactly.
+-- What is answered for terminals in two parts, of which the first is read exactly.
 use Rattle.std.proofs.Common.{◌≡◌, ℕ, List, [], ◌∷◌, ◌++◌, Result, Ok, Err, refl, sym, ◌∙◌, ap, subst, append_assoc}
 use Rattle.jo_grammar.specs.declared.terminal.Terminal.{Terminal}
 use Rattle.jo_grammar.specs.Expressions.{Mark}
@@ -7,9 +7,9 @@ use Rattle.jo_grammar.specs.inner.Read.{peek}
 use Rattle.jo_grammar.proofs.Outcome.{terms-append, Within-append, cancel, Stops, Whole, Stuck, Deep, Failing, bind}
 use Rattle.jo_grammar.proofs.Accepted.{list-end, Answers}
 
--- ---- another language with the same texts here
+-- ---- another language with the same spellings here
 
--- the second language has the texts of the first, and of those that are good no others
+-- the second language has the spellings of the first, and of those that are good no others
 module _ {A : Type 0} (L L' : Language A) (Good : List Terminal → Type 0) (longer : (x : List Terminal) (c : Terminal) (q : List Terminal) → Good (x ++ c ∷ q)) (to : (a : A) (m : List Mark) → L a m → L' a m)
     (from : (a : A) (m : List Mark) → L' a m → Good (terms m) → L a m) (limit : ℕ) where
   same-begins : (ts : List Terminal) → BeginsWithin L limit ts → BeginsWithin L' limit ts
@@ -41,7 +41,7 @@ peek-list (b ∷ x) c q r = refl
 module _ {A B : Type 0} (L : Language A) (S G : Stops A) (K : A → Language B) (follow : (a : A) (x : List Mark) (b : B) (y : List Mark) → L a x → K a b y → S a (peek (terms y)))
     (some : (a : A) (x : List Mark) → L a x → (b : B) × (y : List Mark) × K a b y) (limit : ℕ) (ts : List Terminal) where
   module _ (a : A) (r : List Terminal) (w : Whole L S G limit ts a r) where
-    -- what another text says once its first part is known
+    -- what another spelling says once its first part is known
     first-part : (r'' : List Terminal) → peek r'' ≡ peek r → (b : B) (m : List Mark) → bind L K b m → terms m ≡ terms w.word ++ r'' → (y : List Mark) × K a b y × (m ≡ w.word ++ y) × (terms y ≡ r'')
     first-part r'' same b m k e =
         let x = k.1 in

@@ -1,4 +1,4 @@
--- Worked cases of the grammar: which trees some texts have, what each token counts, and which trees no text has.
+-- Worked cases of the grammar: which trees some terminals spell, what each terminal counts, and which trees none spell.
 use Rattle.std.proofs.Common.{refl, sym, true≢false, arith}
 use Rattle.std.specs.Prelude.{◌≡◌, ℕ, zero, suc, ◌+◌, ◌≤◌, pos, true, false, List, [], ◌∷◌, ◌++◌, None, Some, replicate}
 use Rattle.jo_lex.specs.declared.punct.Punct.{Punct}

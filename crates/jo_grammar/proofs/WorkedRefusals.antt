@@ -1,4 +1,4 @@
--- Worked cases of acceptance and refusal, each with all that the definition asks for: no other tree has the text, and no text goes on.
+-- Worked cases of acceptance and refusal, each with all that the definition asks for: no other tree has the terminals, and no spelling goes on.
 use Rattle.std.proofs.Common.{refl, sym, ap, ◌∙◌, true≢false, arith}
 use Rattle.std.proofs.lemmas.List.{append_assoc}
 use Rattle.std.specs.Prelude.{◌≡◌, ℕ, zero, suc, ◌+◌, Bool, true, false, List, [], ◌∷◌, ◌++◌, replicate, drop}
@@ -31,7 +31,7 @@ abbrev is_empty : List Terminal → Bool
 is_empty [] = true
 is_empty (c ∷ cs) = false
 
--- How texts begin.
+-- How spellings begin.
 
 first_of_text : (d : ℕ) (e : Tree) (s : List Mark) (c : Terminal) (q : List Terminal) → terms (spelling d e ++ s) ≡ c ∷ q → first e ≡ c
 first_of_text d e s c q h =
@@ -50,7 +50,7 @@ bracketed_text d e s q h = bracketed_further d (spelling d e) s (bracketed_by_fi
 after_bracket : (d : ℕ) (m k l : List Mark) → m ≡ (bracket, d + 1) ∷ k → k ≡ l → m ≡ (bracket, d + 1) ∷ l
 after_bracket d m k l text inside = text ∙ ap (λ x. (bracket, d + 1) ∷ x) inside
 
--- each of the brackets that a text begins with opens one construct more
+-- each of the brackets that a spelling begins with opens one construct more
 brackets_count : (n d : ℕ) (e : Tree) (s : List Mark) (q : List Terminal) → terms (spelling d e ++ s) ≡ replicate n bracket ++ bracket ∷ q
     → (w : List Mark) × (o : ℕ) × (r : List Mark) × (spelling d e ++ s ≡ w ++ (bracket, o) ∷ r) × (terms w ≡ replicate n bracket) × (o ≡ d + n + 1)
 brackets_count zero d e s q h =
@@ -69,7 +69,7 @@ brackets_count (suc n) d e s q h =
       omega (arith, deeper.5),
     )
 
--- no text has opening brackets alone
+-- no spelling has opening brackets alone
 brackets_close : (n d : ℕ) (e : Tree) (s : List Mark) → terms (spelling d e ++ s) ≡ replicate n bracket → ⊥
 brackets_close zero d e s h = some_token d e s h
 brackets_close (suc n) d e s h =

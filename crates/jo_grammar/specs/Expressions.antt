@@ -1,4 +1,4 @@
--- The grammar of expressions: which trees there are, and the tokens that spell each.
+-- The grammar of expressions: which trees there are, and the terminals that spell each.
 use Rattle.std.specs.Prelude.{◌≡◌, ℕ, ◌+◌, ◌≤◌, Bool, true, false, List, [], ◌∷◌, ◌++◌}
 use Rattle.jo_lex.specs.declared.punct.Punct.{Punct}
 use Rattle.jo_lex.specs.declared.punct.Punct.TheVariants as p
@@ -10,7 +10,7 @@ use Rattle.jo_grammar.specs.declared.terminal.Terminal.TheVariants as t
 use Rattle.jo_tree.specs.Trees.{Tree, number, literal, constant, variable, group, object, cas, member, unary, delete, chain, choose, assign, Props, no_props, prop, Accesses, no_accesses, field, index, Links, no_links, link}
 use Rattle.jo_grammar.specs.Operators.{unary_token, binary_token, level_of, assign_token, name_token, key_token, reads_proto, is_constant}
 
--- A token, and how many constructs are open once it has opened one, or 0 where it opens none.
+-- A terminal, and how many constructs are open once it has opened one, or 0 where it opens none.
 abbrev pub Mark : Type 0
 Mark = Terminal × ℕ
 
@@ -65,7 +65,7 @@ abbrev mutual
   FitLinks ins some k no_links = some ≡ false
   FitLinks ins some k (link o e ls) = (level_of o ≡ k) × (o ≡ bin.In → ins ≡ true) × Fits ins (k + 1) e × FitLinks ins false k ls
 
--- ---- the tokens that spell a tree
+-- ---- the terminals that spell a tree
 
 abbrev pub plain : Terminal → Mark
 plain c = (c, 0)
@@ -80,7 +80,7 @@ abbrev pub comma_at_end : Bool → List Mark
 comma_at_end true = mark p.Comma ∷ []
 comma_at_end false = []
 
--- The tokens of a tree, where d constructs are open already. A bracket is open up to its closing bracket, an operator up to the end of its last operand.
+-- The terminals of a tree, where d constructs are open already. A bracket is open up to its closing bracket, an operator up to the end of its last operand.
 abbrev mutual
   pub spelling : ℕ → Tree → List Mark
   spelling d (number i) = plain (t.Number i) ∷ []
@@ -117,11 +117,11 @@ abbrev mutual
 
 -- ---- expressions
 
--- the tokens spell the expression, where so many constructs are open already
+-- the terminals spell the expression, where so many constructs are open already
 abbrev pub IsExpression : Bool → ℕ → Tree → List Mark → Type 0
 IsExpression ins d e m = Fits ins 1 e × (m ≡ spelling d e)
 
--- the token that an expression begins with
+-- the terminal that an expression begins with
 abbrev pub first : Tree → Terminal
 first (number i) = t.Number i
 first (literal s) = t.Text s

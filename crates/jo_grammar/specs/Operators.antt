@@ -1,4 +1,4 @@
--- The tokens of operators, names and keys, and how tightly operators bind.
+-- The terminals of operators, names and keys, and how tightly operators bind.
 use Rattle.std.specs.Prelude.{ℕ, Bool, true, false}
 use Rattle.jo_lex.specs.declared.punct.Punct.TheVariants as p
 use Rattle.jo_tree.specs.declared.keyword.Keyword.{Keyword}

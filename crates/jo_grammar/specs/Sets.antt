@@ -22,18 +22,18 @@ use Rattle.jo_grammar.specs.Cuts.{Section, sections_of, IsOneTooMany}
 
 -- ---- tokens
 
--- the lexer at the front of a script, with the table that the scripts before left
+-- the lexer at the front of a section, with the table that the sections before left
 abbrev pub begun : Table → Section → Progress
 begun texts section = start section.start texts (chars section.input)
 
--- the scripts are read into tokens, one after another into one table
+-- the sections are read into tokens, one after another into one table
 abbrev pub AreRead : Table → List Section → List (List Token) → Table → Type 0
 AreRead texts [] [] end = end ≡ texts
 AreRead texts (section ∷ sections) (tokens ∷ lists) end =
     (after : Table) × IsRead (begun texts section) tokens after × AreRead after sections lists end
 AreRead texts _ _ end = ⊥
 
--- the first script that is not read, and its first fault: those before it are read
+-- the first section that is not read, and its first fault: those before it are read
 abbrev pub IsFirstUnread : Table → List Section → Refusal → Type 0
 IsFirstUnread texts [] refusal = ⊥
 IsFirstUnread texts (section ∷ sections) refusal =
@@ -74,12 +74,12 @@ faults_of_all (script ∷ scripts) = faults script ++ faults_of_all scripts
 
 -- ---- sets, stage by stage
 
--- the bytes are UTF-8, and not too many scripts
+-- the bytes are UTF-8, and cut into sections that are not too many
 pub record IsCut (bytes : List ℕ) : Type 0 where
   pub utf8 : IsUtf8 bytes
   pub few : length (sections_of bytes) ≤ MOST_SCRIPTS
 
--- besides, the scripts are read into these tokens, with this table, and there is something
+-- besides, the sections are read into these tokens, with this table, and there is something
 pub record IsLexed (bytes : List ℕ) (lists : List (List Token)) (texts : Table) : Type 0 where
   pub cut : IsCut bytes
   pub read : AreRead [] (sections_of bytes) lists texts
@@ -99,7 +99,7 @@ pub record IsAcceptedSet (bytes : List ℕ) (scripts : List Items) (texts : Tabl
 
 -- ---- refusals
 
--- at the first fault, over all scripts, of a place that begins no token, of a number, or of a text too many for the table
+-- at the first place, over all scripts, that begins no token, has a number that is too large, or a text too many for the table
 abbrev pub IsUnlexed : List ℕ → Refusal → Type 0
 IsUnlexed bytes refusal = IsCut bytes × IsFirstUnread [] (sections_of bytes) refusal
 

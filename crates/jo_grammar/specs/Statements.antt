@@ -54,7 +54,7 @@ abbrev mutual
   FitItems loops (declare bs is) = FitBindings true true bs × FitItems loops is
   FitItems loops (perform s is) = FitStatement loops s × FitItems loops is
 
--- ---- the tokens that spell a statement, where d constructs are open already
+-- ---- the terminals that spell a statement, where d constructs are open already
 
 abbrev pub optional : ℕ → Option Tree → List Mark
 optional d None = []
@@ -118,6 +118,6 @@ abbrev mutual
 
 -- ---- scripts
 
--- the tokens spell the script
+-- the terminals spell the script
 abbrev pub IsScript : Items → List Mark → Type 0
 IsScript s m = FitItems false s × (m ≡ items 0 s)

@@ -30,6 +30,6 @@ Gives view tree (Ok x) = view x ≡ tree
 Gives view tree (Err Memory) = Unit {0}
 Gives view tree (Err (Refused r)) = ⊥
 
--- a fault of memory, or the refusal of the terminals by the grammar and the limit
+-- want of memory, or the refusal of the terminals by the grammar and the limit
 abbrev pub IsFault : {A : Type 0} → Language A → List Token → List Terminal → ParseFault → Type 0
 IsFault L tokens ts = IsMemoryOr (λ r. (fault : Fault) × (rest : List Terminal) × IsRefused L MOST_OPEN fault ts rest × (r ≡ refusal_of tokens ts fault rest))

@@ -1,4 +1,5 @@
-//! The grammar of scripts as a definition, and that reading a script token by token follows it exactly.
+//! Which inputs are accepted sets of scripts, and what others are refused for, as definitions; and that reading token by
+//! token follows the grammar exactly.
 #![tactic(auto)]
 
 mod terminal;

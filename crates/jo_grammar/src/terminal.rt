@@ -1,4 +1,4 @@
-// Tokens.
+// Terminals.
 
 use jo_lex::Punct;
 use jo_tree::{Ident, Keyword, Literal};

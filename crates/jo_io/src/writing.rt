@@ -1,4 +1,4 @@
-// Writing a text whole.
+// Writing an output whole.
 ghost use Rattle.std.specs.Prelude.{OnOk, OnErr};
 ghost use Rattle.std.specs.Io.KnownBytes.{Appends};
 ghost use Rattle.jo_io.specs.Causes.{HasCause};

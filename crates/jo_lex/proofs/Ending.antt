@@ -1,4 +1,4 @@
--- A script has at most as many pieces as bytes: from its last state nothing goes on.
+-- A script has at most as many pieces as bytes: from its last progress nothing goes on.
 use Rattle.std.proofs.Common.{◌≡◌, ℕ, zero, suc, ◌+◌, ◌-◌, ◌<◌, ◌≤◌, ◌==◌, ◌||◌, nat_le, nat_lt, Bool, true, false, List, [], ◌∷◌, length, drop, Option, Some, None, unwrap_or, if◌then◌else◌, refl, sym, ap, ◌∙◌, arith, length-append}
 use Rattle.std.proofs.lemmas.Bool.{and_parts, ltb-true}
 use Rattle.std.specs.List.{take_while, list_all}
@@ -188,7 +188,7 @@ piece-leaves c cs =
     leaves-if n (is_blank c) blanks (if c == 47 then unwrap_or (comment cs) token else token) (size-drop_while is_blank cs)
     (leaves-if n (c == 47) (unwrap_or (comment cs) token) token (comment-leaves cs token (token-leaves c cs)) (token-leaves c cs))
 
--- ---- from state to state
+-- ---- from piece to piece
 
 abbrev GoesOnBelow : ℕ → Advance → Type 0
 GoesOnBelow n ended = Unit {0}
@@ -226,6 +226,6 @@ unfolding reached
 reached-stops zero s t le e = none-left s s.rest t le e
 reached-stops (suc n) s t le e = stop-step n s t (next s) (λ v g f. reached-stops n v t (next-below n s s.rest v le g) f) refl e
 
--- from the last state nothing goes on
+-- from the last progress nothing goes on
 pub last-stops : (s t : Progress) → next (last s) ≡ onward t → ⊥
 last-stops s t e = reached-stops (size s.rest) s t (omega arith) e

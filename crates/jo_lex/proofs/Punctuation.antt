@@ -1,4 +1,4 @@
--- A punctuator at the front of a text, and the longest of a table.
+-- A punctuator at the front of an input, and the longest of a table.
 use Rattle.std.proofs.Common.{◌≡◌, ◌≢◌, ℕ, zero, suc, ◌<◌, ◌≤◌, Bool, true, false, cond, not, ◌&&◌, nat_lt, nat_le, nat_eq, List, [], ◌∷◌, ◌++◌, length, drop, slice_index_or, Bor, Option, Some, None, refl, sym, ap, ◌∙◌, arith, drop_at}
 use Rattle.std.proofs.lemmas.Bool.{and_parts, false_from_ne_true, leb-true, ltb-true, le-ltb}
 use Rattle.std.proofs.lemmas.Bool.Decides.{Decides-eqb}
@@ -18,7 +18,7 @@ IsAscii-from_test [] e i = omega arith
 IsAscii-from_test (b ∷ bs) e zero = let k = ltb-true b 128 (and_parts (nat_lt b 128) (is_ascii bs) e).0 in omega arith
 IsAscii-from_test (b ∷ bs) e (suc i) = IsAscii-from_test bs (and_parts (nat_lt b 128) (is_ascii bs) e).1 i
 
--- a text that begins with ASCII bytes begins with them as characters
+-- an input that begins with ASCII bytes begins with them as characters
 pub starts-yes : (p s rest : List ℕ) → is_ascii p ≡ true → s ≡ p ++ rest → chars s ≡ p ++ chars rest
 starts-yes p s rest a e = let ascii = IsAscii-from_test p a in ap chars e ∙ chars-append p rest (IsUtf8-from_ascii p ascii) ∙ ap (λ t. t ++ chars rest) (chars-IsAscii p ascii)
 

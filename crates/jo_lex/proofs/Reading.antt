@@ -16,7 +16,7 @@ use Rattle.jo_lex.specs.Tokens.{Progress, Advance, ended, refused, onward, token
 pub size-chars : (bs : List ℕ) → IsUtf8 bs → size (chars bs) ≡ length bs
 size-chars bs u = ap length (encodes-chars bs u)
 
--- nothing goes on from the state
+-- nothing goes on from the progress
 abbrev pub Stays : Progress → Type 0
 Stays s = (go : Progress → Progress) → going_on go s (next s) ≡ s
 
@@ -49,7 +49,7 @@ last-step n m s t ended ih e r = ap (going_on (reached m) s) e ∙ sym (ap (goin
 last-step n m s t (refused k) ih e r = ap (going_on (reached m) s) e ∙ sym (ap (going_on (reached n) s) e) ∙ r
 last-step n m s t (onward v) ih e r = ap (going_on (reached m) s) e ∙ ih v (sym (ap (going_on (reached n) s) e) ∙ r)
 
--- a state from which nothing goes on is the last, however many pieces are allowed
+-- a progress from which nothing goes on is the last, however many pieces are allowed
 pub reached-last : (n m : ℕ) (s t : Progress) → n ≤ m → reached n s ≡ t → Stays t → reached m s ≡ t
 unfolding reached
 reached-last zero m s t le r h = ap (reached m) r ∙ reached-stays m t h

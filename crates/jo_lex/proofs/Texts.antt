@@ -1,4 +1,4 @@
--- A text and its characters.
+-- An input and its characters.
 use Rattle.std.proofs.Common.{◌≡◌, ℕ, ◌<◌, Bool, true, false, List, [], ◌∷◌, ◌++◌, length, take, refl, sym, ap, subst, ◌∙◌, arith, append_assoc, take_at}
 use Rattle.std.proofs.lemmas.List.{append_cancel_right}
 use Rattle.std.proofs.lemmas.List.Sums.{take_while-cons}
@@ -11,7 +11,7 @@ use Rattle.jo_lex.specs.Characters.{drop_while}
 pub encode_nonempty : (c : ℕ) → 0 < length (encode_utf8 c)
 encode_nonempty c = let bounds = len_utf8_bounds c in omega (arith, length-encode c)
 
--- what precedes a text within a text is text
+-- what precedes UTF-8 within UTF-8 is UTF-8
 pub IsUtf8-before : (bs front back : List ℕ) → IsUtf8 bs → IsUtf8 back → bs ≡ front ++ back → IsUtf8 front
 IsUtf8-before bs front back u v e =
     let n = length front in

@@ -46,7 +46,7 @@ pub record Progress : Type 0 where
   pub tokens : List Token
   pub table : Table
 
--- the end of the script, what is wrong at the place, or the state after the next piece
+-- the end of the script, what is wrong at the place, or the progress after the next piece
 pub data Advance : Type 0 where
   ended : Advance
   refused : RefusalKind → Advance
@@ -76,13 +76,13 @@ next_of s (c ∷ cs) = taken s (piece c cs)
 abbrev pub next : Progress → Advance
 next s = next_of s s.rest
 
--- the state, or where it goes on
+-- the progress, or where it goes on
 abbrev pub going_on : (Progress → Progress) → Progress → Advance → Progress
 going_on go s ended = s
 going_on go s (refused k) = s
 going_on go s (onward t) = go t
 
--- the state after so many pieces, or where nothing goes on
+-- the progress after so many pieces, or where nothing goes on
 unfoldable pub reached : ℕ → Progress → Progress
 reached zero s = s
 reached (suc n) s = going_on (reached n) s (next s)
@@ -93,7 +93,7 @@ reached (suc n) s = going_on (reached n) s (next s)
 abbrev pub start : ℕ → Table → Characters → Progress
 start base table cs = record { place = base; rest = cs; tokens = []; table = table }
 
--- the last state: a script has at most as many pieces as bytes
+-- the last progress: a script has at most as many pieces as bytes
 abbrev pub last : Progress → Progress
 last s = reached (size s.rest) s
 

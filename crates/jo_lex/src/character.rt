@@ -92,7 +92,7 @@ pub(crate) fn is_in(class: Class, c: char) -> bool
     }
 }
 
-/// The first character of a input, and what follows it.
+/// The first character of an input, and what follows it.
 pub(crate) fn first_of(input: &str) -> Option<(char, &str)>
     ensures { MatchOption result ((chars input.now ≡ []) × (length input.now ≡ 0))
         (λ (c, rest). (chars input.now ≡ c ∷ chars rest.now) × (length rest.now < length input.now)

@@ -1,4 +1,4 @@
-//! From a script, as its input, to its tokens, or to the first place that begins none.
+//! From a script to its tokens, or to the first place that begins none.
 #![tactic(auto)]
 
 mod beginning;

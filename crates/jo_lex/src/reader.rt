@@ -1,4 +1,4 @@
-// From the input of a script to its tokens.
+// From a script to its tokens.
 ghost use Rattle.std.specs.Prelude.{◌≡◌, ◌+◌, ◌-◌, ◌<◌, ◌≤◌, ℕ, [], ◌∷◌, ◌++◌, length, encode_utf8, IfOk, IfErr, IsErrOf, OnOk, OnErr, Some, None};
 ghost use Rattle.std.specs.Str.{chars};
 ghost use Rattle.jo_lex.specs.Tokens as spec;

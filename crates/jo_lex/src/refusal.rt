@@ -10,9 +10,9 @@ pub enum RefusalKind {
     NotUtf8,
     /// The place begins no token.
     BadToken,
-    /// No accepted script goes on with this token.
+    /// No script, however deep, goes on with this token, or ends here.
     Unexpected,
-    /// A variable is used that no enclosing block declares, or before its declaration in the innermost block that does.
+    /// A variable is used that no enclosing block declares, or before a declaration of it has ended in the innermost block that does.
     Undeclared,
     /// A block declares a name twice.
     Twice,

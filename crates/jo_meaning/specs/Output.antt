@@ -1,4 +1,4 @@
--- The output text of a set of scripts.
+-- The output of a set of scripts.
 use Rattle.std.specs.Prelude.{ℕ, ◌+◌, List, [], ◌++◌, flat_map, length}
 use Rattle.std.specs.List.{enumerate_from}
 use Rattle.jo_value.specs.Texts.{Table}
@@ -18,6 +18,6 @@ module _ (texts : Table) (turns : ℕ) (w : History) where
   abbrev pub script_text : ℕ × Items → List ℕ
   script_text s = run_text s.0 (run_in w s.0 s.1 texts turns).lines (stand_text (run_in w s.0 s.1 texts turns).stand)
 
-  -- The output text of scripts with this history: for each script its lines and its outcome, then all objects at the end.
+  -- The output of scripts with this history: for each script its lines and its outcome, then all objects at the end.
   abbrev pub output : List Items → List ℕ
   output scripts = flat_map script_text (enumerate_from 1 scripts) ++ heap_text texts (heap_after (length scripts + 1) w)

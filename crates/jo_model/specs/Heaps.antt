@@ -23,7 +23,7 @@ objects_of heap pass = slice_index_or heap pass []
 abbrev pub IsBorn : Heap → ObjId → Type 0
 IsBorn heap o = o.serial < length (objects_of heap o.pass)
 
--- the object with a name; an empty one where it is not there
+-- the object of this pass and serial; an empty one where it is not there
 abbrev pub object_of : Heap → ObjId → Object
 object_of heap o = slice_index_or (objects_of heap o.pass) o.serial empty_object
 

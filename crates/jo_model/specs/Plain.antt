@@ -14,7 +14,7 @@ abbrev pub IsName : Key → Type 0
 IsName (Name name) = Unit {0}
 IsName _ = ⊥
 
--- the call is built: a Get or a Put of a name
+-- the call is served so far: a Get or a Put of a name
 abbrev pub IsServed : Call → Type 0
 IsServed (Get o key) = IsName key
 IsServed (Put o key value) = IsName key

@@ -1,4 +1,4 @@
--- The texts of values in printed lines.
+-- How values are written in printed lines.
 use Rattle.std.specs.Prelude.{ℕ, List, [], ◌∷◌, ◌++◌, codes, decimal, map, flat_map, true, false}
 use Rattle.std.specs.Fmt.{signed_decimal}
 use Rattle.jo_value.specs.Texts.{Table, text_in}
@@ -9,7 +9,7 @@ use Rattle.jo_value.specs.declared.value.Value.TheVariants.{Undefined, Null, Boo
 abbrev pub object_text : ObjId → List ℕ
 object_text o = codes "#" ++ decimal o.pass ++ codes "." ++ decimal o.serial
 
--- the text of a value in a line
+-- a value as it is written in a line
 abbrev pub value_text : Table → Value → List ℕ
 value_text texts Undefined = codes "undefined"
 value_text texts Null = codes "null"
@@ -19,7 +19,7 @@ value_text texts (Int i) = signed_decimal i
 value_text texts (Text t) = text_in texts t.0
 value_text texts (Object o) = object_text o
 
--- texts one after another, with a text between each two
+-- fragments one after another, with a fragment between each two
 abbrev pub joined : List ℕ → List (List ℕ) → List ℕ
 joined between [] = []
 joined between (t ∷ texts) = t ++ flat_map (λ u. between ++ u) texts

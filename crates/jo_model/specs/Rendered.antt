@@ -1,4 +1,4 @@
--- The output text of a run: what a script printed, how it ended, and the objects at the end.
+-- The output of a run: what a script printed, how it ended, and the objects at the end.
 use Rattle.std.specs.Prelude.{ℕ, ◌==◌, ◌||◌, Bool, true, false, List, [], ◌∷◌, ◌++◌, codes, decimal, map, flat_map, if◌then◌else◌}
 use Rattle.std.specs.List.{enumerate_from}
 use Rattle.jo_value.specs.Texts.{Table, text_in}
@@ -23,7 +23,7 @@ outcome_text outcome.TooManyNames = codes "TooManyNames"
 outcome_text outcome.ObjectsSpent = codes "ObjectsSpent"
 outcome_text outcome.Spent = codes "Spent"
 
--- Lines, each closed by a line feed, with a text before each; `begins` says whether a line begins here.
+-- Lines, each closed by a line feed, with a head before each; `begins` says whether a line begins here.
 abbrev pub headed : List ℕ → (begins : Bool) → List ℕ → List ℕ
 headed head begins [] = []
 headed head true (b ∷ lines) = head ++ b ∷ headed head (b == 10) lines
@@ -37,7 +37,7 @@ run_text t lines word = headed (decimal t ++ codes "| ") true lines ++ decimal t
 abbrev pub quoted : List ℕ → List ℕ
 quoted text = codes "\"" ++ flat_map (λ b. if b == 92 || b == 34 then 92 ∷ b ∷ [] else b ∷ []) text ++ codes "\""
 
--- the text of a value of a property
+-- the value of a property as it is written
 abbrev pub property_value_text : Table → Value → List ℕ
 property_value_text texts (value.Text t) = quoted (text_in texts t.0)
 property_value_text texts v = value_text texts v

@@ -1,4 +1,4 @@
--- The scripts of a set end within its input.
+-- The sections of an input end within it.
 use Rattle.std.proofs.Common.{◌≡◌, ℕ, ◌+◌, ◌≤◌, Bool, true, false, List, [], ◌∷◌, ◌++◌, length, refl, ap, arith, length-append}
 use Rattle.jo_grammar.specs.Cuts.{lines_of, with_first, is_separator, sections_from, sections_of, AreWithin}
 use Rattle.jo_parse.proofs.Lines.{is_feed, lines-nil, lines-feed, lines-other}

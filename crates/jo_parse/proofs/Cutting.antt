@@ -1,11 +1,11 @@
--- From line to line: the scripts so far, and the one under way.
+-- From line to line: the sections so far, and the one under way.
 use Rattle.std.proofs.Common.{◌≡◌, ℕ, ◌+◌, ◌-◌, ◌<◌, Bool, true, false, List, [], ◌∷◌, ◌++◌, length, slice_get, Some, refl, sym, ap, ◌∙◌, arith, append_assoc, length-append}
 use Rattle.std.proofs.lemmas.List.{append_cancel_right}
 use Rattle.jo_value.specs.declared.limits.TheConstants.{MOST_SCRIPTS}
 use Rattle.jo_grammar.specs.Cuts.{Section, lines_of, is_separator, sections_from, sections_of, IsOneTooMany}
 use Rattle.jo_parse.proofs.Lines.{lines-nil}
 
--- a script has begun where `from` does in the whole input, and it goes on with the lines of the rest
+-- a section has begun where `from` does in the whole input, and it goes on with the lines of the rest
 pub record IsUnderWay (whole from rest : List ℕ) (parts : List Section) : Type 0 where
   pub front : List ℕ
   pub cut : from ≡ front ++ rest
@@ -52,11 +52,11 @@ gone-on whole from rest line after parts h lines split e =
       few = h.few;
     }
 
--- the input of the script that ends before the rest
+-- the bytes of the section that ends before the rest
 ended-input : (whole from rest input : List ℕ) (parts : List Section) (h : IsUnderWay whole from rest parts) → from ≡ input ++ rest → h.front ≡ input
 ended-input whole from rest input parts h e = append_cancel_right h.front input rest (sym h.cut ∙ e)
 
--- the last script
+-- the last section
 pub last-is : (whole from rest input : List ℕ) (start : ℕ) (parts : List Section) → IsUnderWay whole from rest parts → rest ≡ [] → start + length from ≡ length whole → from ≡ input ++ rest
     → parts ++ record { start = start; input = input } ∷ [] ≡ sections_of whole
 last-is whole from rest input start parts h none place e =
@@ -81,7 +81,7 @@ separated whole from rest line after input start parts h lines split is place e 
     ∙ ap (λ n. parts ++ (record { start = start; input = input } ∷ sections_from n [] ls)) further)
     ∙ h.goes_on
 
--- a separator, where one more script may begin
+-- a separator, where one more section may begin
 pub begun-anew : (whole from rest line after input : List ℕ) (start : ℕ) (parts : List Section) → IsUnderWay whole from rest parts → lines_of rest ≡ line ∷ lines_of after → rest ≡ line ++ after → is_separator line ≡ true
     → start + length from ≡ length whole → from ≡ input ++ rest → length parts + 1 < MOST_SCRIPTS
     → IsUnderWay whole after after (parts ++ record { start = start; input = input } ∷ [])
@@ -107,7 +107,7 @@ get-after : {X : Type 0} (xs ys : List X) (x : X) → slice_get (xs ++ (x ∷ ys
 get-after [] ys x = refl
 get-after (y ∷ xs) ys x = get-after xs ys x
 
--- a separator, where no more script may begin
+-- a separator, where no more section may begin
 pub one-too-many : (whole from rest line after input : List ℕ) (start : ℕ) (parts : List Section) → IsUnderWay whole from rest parts → lines_of rest ≡ line ∷ lines_of after → rest ≡ line ++ after → is_separator line ≡ true
     → start + length from ≡ length whole → from ≡ input ++ rest → length parts + 1 ≡ MOST_SCRIPTS
     → IsOneTooMany (sections_of whole) (start + length input)

@@ -1,4 +1,4 @@
--- The first line of a input.
+-- The first line of an input.
 use Rattle.std.proofs.Common.{◌≡◌, ℕ, suc, ◌+◌, ◌<◌, ◌==◌, Bool, true, false, not, List, [], ◌∷◌, ◌++◌, length, take, drop, cond, get_or, refl, sym, ap, subst, ◌∙◌, arith, rules}
 use Rattle.std.proofs.lemmas.Grind.{common_steps}
 use Rattle.std.proofs.lemmas.List.Sums.{position_or_len_is}
@@ -41,7 +41,7 @@ whole-step b input true n e ih same = absurd (omega arith)
 whole-step b [] false n e ih same = lines-other b [] e ∙ ap (with_first b) lines-nil
 whole-step b (c ∷ input) false n e ih same = lines-other b (c ∷ input) e ∙ ap (with_first b) (ih (omega arith) (omega arith))
 
--- a input without a line feed is one line
+-- an input without a line feed is one line
 pub lines-whole : (input : List ℕ) → position_or_len is_feed input ≡ length input → 0 < length input → lines_of input ≡ input ∷ []
 lines-whole [] same some = absurd (omega arith)
 lines-whole (b ∷ input) same some = whole-step b input (is_feed b) (position_or_len is_feed input) refl (lines-whole input) same

@@ -1,4 +1,4 @@
-// The scripts of a set.
+// The sections of an input.
 ghost use Rattle.std.specs.Prelude.{◌≡◌, ◌+◌, ◌<◌, ◌≤◌, [], ◌∷◌, ◌++◌, length, take, drop, IfErr, IfOk, OnOk};
 ghost use Rattle.std.specs.Str.{IsCharBoundary};
 ghost use Rattle.jo_value.specs.declared.limits.TheConstants.{MOST_INPUT, MOST_SCRIPTS};
@@ -10,7 +10,7 @@ use jo_lex::{ParseFault, Refusal, RefusalKind, front};
 use jo_value::MOST_SCRIPTS;
 use std::alloc::{AllocError, Global};
 
-/// A script of a set, and how many bytes stand before it.
+/// A script of a set as bytes, and how many stand before it.
 #[derive(Clone, Copy)]
 pub(crate) struct Section<'a> {
     pub(crate) start: u32,
@@ -51,7 +51,7 @@ fn is_separator(line: &str) -> bool
     line == "%%\n" || line == "%%\r\n" || line == "%%" || line == "%%\r"
 }
 
-// The script that goes from there to before the end, in an input that they end.
+// The section that goes from there to before the end, in an input that both end.
 fn script<'a>(input: &str, from: &'a str, end: &str) -> Section<'a>
     requires limit { length input.now ≤ MOST_INPUT }
     requires from { EndsWith input.now from.now }
@@ -65,7 +65,7 @@ fn script<'a>(input: &str, from: &'a str, end: &str) -> Section<'a>
     }
 }
 
-// Adds a script to those before it.
+// Adds a section to those before it.
 fn add<'a>(parts: &mut Vec<Section<'a>>, part: Section<'a>) -> Result<(), AllocError>
     ensures ok { OnOk result (sections_in parts.new.items ≡ sections_in parts.old.items ++ section_of part.entry ∷ []) }
     ensures len { OnOk result (length parts.new.items ≡ length parts.old.items + 1) }
@@ -74,7 +74,7 @@ fn add<'a>(parts: &mut Vec<Section<'a>>, part: Section<'a>) -> Result<(), AllocE
     Ok(())
 }
 
-// The refusal at the separator that ends this script.
+// The refusal at the separator that ends this section.
 fn too_many(last: Section<'_>) -> ParseFault
     requires { last.start + length last.input.now ≤ MOST_INPUT }
     ensures { result ≡ one_too_many (section_of last.entry) }
@@ -85,7 +85,7 @@ fn too_many(last: Section<'_>) -> ParseFault
     })
 }
 
-/// The scripts of a set, which lines of `%%` separate; or the first separator that would begin a script too many.
+/// The sections of an input, which lines of `%%` separate; or the first separator that would begin one too many.
 pub(crate) fn cut<'a>(alloc: Global, input: &'a str) -> Result<Vec<Section<'a>>, ParseFault>
     requires { length input.now ≤ MOST_INPUT }
     ensures ok { IfOk result (λ parts. sections_in parts.items ≡ sections_of input.now) }

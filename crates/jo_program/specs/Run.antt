@@ -11,7 +11,7 @@ use Rattle.jo_answer.specs.Answers.{IsDue, IsRunnable, IsRefusedInput}
 use Rattle.jo_program.specs.declared.status.Status.{Status}
 use Rattle.jo_program.specs.declared.status.Status.TheVariants as status
 
--- the exit status of the program
+-- the exit code of each status
 abbrev pub status_number : Status → ℕ
 status_number status.Done = 0
 status_number status.Usage = 1

@@ -1,4 +1,4 @@
--- The elements of a list with their numbers, one more at a time.
+-- The elements of a list with their places, one more at a time.
 use Rattle.std.proofs.Common.{◌≡◌, ℕ, ◌+◌, ◌<◌, List, [], ◌∷◌, ◌++◌, length, get_or, take, suc, sym, ap, ◌∙◌, arith}
 use Rattle.std.specs.List.{enumerate_from, flat_map}
 use Rattle.std.proofs.lemmas.List.{take_more, length-take-le, flat_map_more}
@@ -9,7 +9,7 @@ enumerate_from-push {X} n (y ∷ xs) x =
     let e : n + 1 + length xs ≡ n + suc (length xs) = omega arith in
     ap (λ l. (n, y) ∷ l) (enumerate_from-push (n + 1) xs x) ∙ ap {B = List (ℕ × X)} (λ k. (n, y) ∷ enumerate_from (n + 1) xs ++ (k, x) ∷ []) e
 
--- the texts of the first elements, and that of the next one
+-- what is made of the first elements, and of the next one
 pub flat_map_numbered_more : {X A : Type 0} (f : ℕ × X → List A) (bs : List A) (xs : List X) (i : ℕ) (d x : X) → i < length xs → x ≡ get_or xs i d →
     (bs ++ flat_map f (enumerate_from 0 (take i xs))) ++ f (i, x) ≡ bs ++ flat_map f (enumerate_from 0 (take (i + 1) xs))
 flat_map_numbered_more {X} f bs xs i d x within read =

@@ -1,4 +1,4 @@
--- Texts with a comma between each two, from texts with a comma before each.
+-- Fragments with a comma between each two, from fragments with a comma before each.
 use Rattle.std.proofs.Common.{◌≡◌, ℕ, List, [], ◌∷◌, ◌++◌, drop, codes, refl, sym, ap, ◌∙◌}
 use Rattle.std.proofs.lemmas.List.Concat.{flat_map-append}
 use Rattle.jo_model.specs.Printed.{joined}
@@ -8,7 +8,7 @@ drop-each_after : (texts : List (List ℕ)) → drop 2 (each_after (codes ", ") 
 drop-each_after [] = refl
 drop-each_after (t ∷ texts) = refl
 
--- two lists of texts, in a buffer that was empty
+-- two lists of fragments, in a buffer that was empty
 pub joined_from_buffer : (empty first both : List ℕ) (these those : List (List ℕ)) →
     empty ≡ [] → first ≡ empty ++ each_after (codes ", ") these → both ≡ first ++ each_after (codes ", ") those →
     drop 2 both ≡ joined (codes ", ") (these ++ those)

@@ -28,7 +28,7 @@ pub fn add_value(
     }
 }
 
-// Puts the name of an object at the end.
+// Puts an object at the end, by its pass and serial.
 fn add_object_name(alloc: Global, output: &mut Vec<u8>, object: ObjId) -> Result<(), AllocError>
     ensures { OnOk result (output.new.items ≡ output.old.items ++ object_text object) }
 {

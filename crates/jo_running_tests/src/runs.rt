@@ -28,8 +28,8 @@ const DEEP: &[u8] = b"((((((((((((((((((((((((((((((((((((((((((((((((((((((((((
 
 const SEPARATORS: &[u8] = b"%%\n%%\n%%\n%%\n%%\n%%\n%%\n%%\n";
 
-// What is run, the numbers of the read and the write that fail, and what comes of it. Without a
-// number it is the first call that is not needed.
+// What is run, which read and which write fail, and what comes of it. Where none is said it is the
+// first one that is not needed.
 #[derive(Clone, Copy)]
 struct Row<'a> {
     words: &'a [&'a str],
@@ -74,7 +74,7 @@ fn check<R: Abort + Threads + Wait + Sync>(
     Ok(())
 }
 
-// The text so many times.
+// The part so many times.
 fn times(alloc: Global, text: &str, count: usize) -> Result<Vec<u8>, AllocError> {
     text.repeat(alloc, count)?.as_bytes().to_vec(alloc)
 }

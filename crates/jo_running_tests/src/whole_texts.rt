@@ -1,4 +1,5 @@
-// Whole texts, with ample memory, and that no call is made that is not needed.
+// Inputs read to their end, outputs written whole and how values are written, with ample memory; and
+// that no call is made that is not needed.
 use jo_io::{Failed, MemorySink, MemorySource, ReadError, Sink, Source, read_all, write_all};
 use jo_model::Outcome;
 use jo_render::{add_line, add_run, add_value};
@@ -74,7 +75,7 @@ fn a_failed_write_leaves_a_prefix(rt: HostRuntime) -> Result<(), Fail> {
 #[test]
 fn no_read_comes_after_the_end_or_the_limit(rt: HostRuntime) -> Result<(), Fail> {
     let alloc = rt.alloc();
-    // An input, a limit, the number of the first call that is not needed, and what is read.
+    // An input, a limit, which call is the first that is not needed, and what is read.
     let rows: [(&[u8], usize, u64, &[u8]); 4] = [
         (b"abc", 9, 5, b"abc"),
         (b"abc", 2, 3, b"ab"),

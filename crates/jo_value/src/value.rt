@@ -8,7 +8,7 @@ pub struct TextId(pub u16);
 #[derive(Clone, Copy, Debug, PartialEq, Eq)]
 pub struct NameId(pub u16);
 
-/// The name of an object: the pass that made it, and how many objects that pass had made before.
+/// An object: the pass that made it, and its serial, which is how many objects that pass had made before.
 #[derive(Clone, Copy, Debug, PartialEq, Eq)]
 pub struct ObjId {
     pub pass: u8,

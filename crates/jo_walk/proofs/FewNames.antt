@@ -30,12 +30,12 @@ use Rattle.jo_form.specs.declared.form.Step.{Step}
 use Rattle.jo_form.specs.declared.form.Step.TheVariants as step
 use Rattle.jo_walk.specs.inner.Walks.{Stage, values_in, after_call, after_line, after_steps, unless_ended}
 
--- ---- lists of numbers
+-- ---- lists of ids
 
 abbrev IsAmong : ℕ → List ℕ → Type 0
 IsAmong n known = list_any (eqb n) known ≡ true
 
--- each of some numbers is one of others
+-- each of some ids is one of others
 abbrev AreAmong : List ℕ → List ℕ → Type 0
 AreAmong names known = (n : ℕ) → IsAmong n names → IsAmong n known
 
@@ -73,7 +73,7 @@ others_among a b known all n h = all n (list_any-append (eqb n) a b ∙ or_right
 
 -- ---- objects
 
--- the numbers of the names
+-- the ids of the names
 abbrev numbers : List (NameId × Value) → List ℕ
 numbers names = map (λ p. p.0.0) names
 
@@ -86,7 +86,7 @@ record IsSmall (known : List ℕ) (o : Object) : Type 0 where
 few : (known : List ℕ) (o : Object) → IsSmall known o → length (numbers o.names) ≤ length known
 few known o small = length-le_from_is_member nat_eq_equiv (numbers o.names) known small.distinct small.among
 
--- a name that is not found is none of the numbers
+-- a name that is not found has none of the ids
 unfound_at : (p : NameId × Value) (names : List (NameId × Value)) (name : NameId) (b : Bool) → eqb p.0.0 name.0 ≡ b →
     is_some (option_map (λ (p : NameId × Value). p.1) (if b then Some p else find (λ p. is_same_name p.0 name) names)) ≡ false →
     (is_some (option_map (λ (p : NameId × Value). p.1) (find (λ p. is_same_name p.0 name) names)) ≡ false → list_any (eqb name.0) (numbers names) ≡ false) →

@@ -40,7 +40,7 @@ impl Model for MemorySink {
 
 impl MemorySink {
     /// Holds the bytes of `room` first and grows from there. It takes at most `at_most` bytes
-    /// a call, and fails at the calls whose numbers, counted from 1, are in `failing`.
+    /// a call, and fails at the calls that `failing` has, counted from 1.
     pub fn new(room: Vec<u8>, at_most: usize, failing: Vec<u64>) -> MemorySink
         requires { 0 < at_most }
         ensures state { result ≡ record {

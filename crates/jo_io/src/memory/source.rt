@@ -37,8 +37,8 @@ impl Model for MemorySource {
 }
 
 impl MemorySource {
-    /// Gives these bytes, at most `at_most` a call, and fails at the calls whose numbers,
-    /// counted from 1, are in `failing`.
+    /// Gives these bytes, at most `at_most` a call, and fails at the calls that `failing`
+    /// has, counted from 1.
     pub fn new(bytes: Vec<u8>, at_most: usize, failing: Vec<u64>) -> MemorySource
         requires { 0 < at_most }
         ensures state { result ≡ record {

@@ -18,7 +18,7 @@ abbrev pub fault_at : ℕ → InternFault → ParseFault
 fault_at place intern.Memory = Memory
 fault_at place intern.TooManyTexts = Refused (record { kind = TooManyTexts; place = place })
 
--- the state in which this text is left to read
+-- the progress at which this input is left to read
 abbrev pub at : ℕ → List ℕ → List Token → Table → Progress
 at place text tokens table = record { place = place; rest = chars text; tokens = tokens; table = table }
 

@@ -15,7 +15,7 @@ use Rattle.jo_lex.specs.Pieces as spec
 use Rattle.jo_lex.specs.Pieces.{is_escapable}
 use Rattle.jo_lex.specs.Punctuators.{Entry, table}
 
--- a token of the code
+-- a lexeme of the code
 abbrev pub lexeme_of : Lexeme → spec.Lexeme
 lexeme_of (token.Word bytes) = spec.word bytes.now
 lexeme_of (token.Number n) = spec.number n

@@ -8,7 +8,7 @@ abbrev pub around : List Scope → List ℕ
 around [] = []
 around (scope ∷ outer) = scope.names ++ around outer
 
--- variables are numbered from the outermost block: this one is the scope's own
+-- variables are counted from the outermost block: this one is the scope's own
 abbrev pub IsOwn : Scope → List Scope → ℕ → Type 0
 IsOwn scope outer k = (length (around outer) ≤ k) × (k < length (scope.names ++ around outer))
 

@@ -5,7 +5,7 @@ use Rattle.jo_model.specs.Objects.{Object}
 use Rattle.jo_model.specs.Printed.{joined}
 use Rattle.jo_model.specs.Rendered.{element_text, name_text}
 
--- texts one after another, with a text before each
+-- fragments one after another, with a fragment before each
 abbrev pub each_after : List ℕ → List (List ℕ) → List ℕ
 each_after between texts = flat_map (λ u. between ++ u) texts
 
