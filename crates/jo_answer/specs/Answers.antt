@@ -31,7 +31,7 @@ IsBuilt bytes scripts texts = (steps : List Step) × IsForm bytes scripts texts 
 pub record IsOutputOf (script : Items) (texts : Table) (written : List ℕ) : Type 0 where
   pub of_script : IsHistoryOf (script ∷ []) texts DEFAULT_TURNS (Done ∷ []) (played_alone script texts DEFAULT_TURNS).history
   pub alone : entries_of 1 (played_alone script texts DEFAULT_TURNS).history ≡ (played_alone script texts DEFAULT_TURNS).history
-  pub text_is : written ≡ output texts DEFAULT_TURNS (played_alone script texts DEFAULT_TURNS).history (script ∷ [])
+  pub written_is : written ≡ output texts DEFAULT_TURNS (played_alone script texts DEFAULT_TURNS).history (script ∷ [])
 
 -- the bytes are an accepted set that is built, and what is written is the output of its script
 pub record IsRun (bytes written : List ℕ) : Type 0 where

@@ -5,34 +5,34 @@ use Rattle.jo_lex.specs.declared.refusal.RefusalKind.{RefusalKind}
 use Rattle.jo_lex.specs.declared.refusal.RefusalKind.TheVariants as kind
 
 -- the code of a refusal
-abbrev pub code_of : RefusalKind → ℕ
-code_of kind.NotUtf8 = 1
-code_of kind.BadToken = 2
-code_of kind.Unexpected = 3
-code_of kind.Undeclared = 4
-code_of kind.Twice = 5
-code_of kind.TooManyScripts = 6
-code_of kind.NestedTooDeep = 7
-code_of kind.NumberTooLarge = 8
-code_of kind.TooManyTexts = 9
-code_of kind.NoScript = 10
+abbrev pub kind_code : RefusalKind → ℕ
+kind_code kind.NotUtf8 = 1
+kind_code kind.BadToken = 2
+kind_code kind.Unexpected = 3
+kind_code kind.Undeclared = 4
+kind_code kind.Twice = 5
+kind_code kind.TooManyScripts = 6
+kind_code kind.NestedTooDeep = 7
+kind_code kind.NumberTooLarge = 8
+kind_code kind.TooManyTexts = 9
+kind_code kind.NoScript = 10
 
-abbrev pub name_of : RefusalKind → List ℕ
-name_of kind.NotUtf8 = codes "NotUtf8"
-name_of kind.BadToken = codes "BadToken"
-name_of kind.Unexpected = codes "Unexpected"
-name_of kind.Undeclared = codes "Undeclared"
-name_of kind.Twice = codes "Twice"
-name_of kind.TooManyScripts = codes "TooManyScripts"
-name_of kind.NestedTooDeep = codes "NestedTooDeep"
-name_of kind.NumberTooLarge = codes "NumberTooLarge"
-name_of kind.TooManyTexts = codes "TooManyTexts"
-name_of kind.NoScript = codes "NoScript"
+abbrev pub kind_name : RefusalKind → List ℕ
+kind_name kind.NotUtf8 = codes "NotUtf8"
+kind_name kind.BadToken = codes "BadToken"
+kind_name kind.Unexpected = codes "Unexpected"
+kind_name kind.Undeclared = codes "Undeclared"
+kind_name kind.Twice = codes "Twice"
+kind_name kind.TooManyScripts = codes "TooManyScripts"
+kind_name kind.NestedTooDeep = codes "NestedTooDeep"
+kind_name kind.NumberTooLarge = codes "NumberTooLarge"
+kind_name kind.TooManyTexts = codes "TooManyTexts"
+kind_name kind.NoScript = codes "NoScript"
 
 -- the line of a refusal: its code, its name and its place
 abbrev pub refusal_line : Refusal → List ℕ
 refusal_line refusal =
-    codes "refused " ++ decimal (code_of refusal.kind) ++ codes " " ++ name_of refusal.kind ++ codes " at " ++ decimal refusal.place ++ codes "\n"
+    codes "refused " ++ decimal (kind_code refusal.kind) ++ codes " " ++ kind_name refusal.kind ++ codes " at " ++ decimal refusal.place ++ codes "\n"
 
 -- the line for an accepted set that uses what is not built yet
 abbrev pub not_built_line : List ℕ

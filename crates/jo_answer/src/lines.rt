@@ -12,7 +12,7 @@ pub(crate) const NOT_BUILT_LINE: &[u8] = b"refused 11 NotBuilt at 0\n";
 pub(crate) const SIZE_LINE: &[u8] = b"refused: input over 1048576 bytes\n";
 
 fn code(kind: RefusalKind) -> u8
-    ensures { result ≡ spec.code_of kind }
+    ensures { result ≡ spec.kind_code kind }
 {
     match kind {
         RefusalKind::NotUtf8 => 1,
@@ -29,7 +29,7 @@ fn code(kind: RefusalKind) -> u8
 }
 
 fn name(kind: RefusalKind) -> &'static str
-    ensures { result.now ≡ spec.name_of kind }
+    ensures { result.now ≡ spec.kind_name kind }
 {
     match kind {
         RefusalKind::NotUtf8 => "NotUtf8",

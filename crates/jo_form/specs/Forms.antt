@@ -80,20 +80,20 @@ module _ (texts : Table) where
 -- ---- few names
 
 -- the ids of the names in a step, in order of place
-abbrev pub names_in : Step → List ℕ
-names_in (step.Put name i) = name.0 ∷ []
-names_in (step.Print names) = map (λ name. name.0) names
+abbrev pub names_of_step : Step → List ℕ
+names_of_step (step.Put name i) = name.0 ∷ []
+names_of_step (step.Print names) = map (λ name. name.0) names
 
 -- the ids with one more, which goes last where it is new
-abbrev pub with_number : List ℕ → ℕ → List ℕ
-with_number numbers n = if list_any (λ other. n == other) numbers then numbers else numbers ++ n ∷ []
+abbrev pub with_id : List ℕ → ℕ → List ℕ
+with_id numbers n = if list_any (λ other. n == other) numbers then numbers else numbers ++ n ∷ []
 
 -- each id once, in the order of their first places
 abbrev pub each_once : List ℕ → List ℕ
-each_once numbers = fold with_number [] numbers
+each_once numbers = fold with_id [] numbers
 
 abbrev pub has_few_names : List Step → Bool
-has_few_names steps = nat_le (length (each_once (flat_map names_in steps))) MOST_NAMES
+has_few_names steps = nat_le (length (each_once (flat_map names_of_step steps))) MOST_NAMES
 
 -- ---- scripts
 

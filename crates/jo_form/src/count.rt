@@ -8,7 +8,7 @@ use jo_value::{MOST_NAMES, NameId};
 use std::alloc::{AllocError, Global};
 
 fn add_names(numbers: &mut IndexSet<u16>, names: &[NameId]) -> Result<(), AllocError>
-    ensures { OnOk result (numbers.new.keys ≡ fold spec.with_number numbers.old.keys (map (λ name. name.0) names.now)) }
+    ensures { OnOk result (numbers.new.keys ≡ fold spec.with_id numbers.old.keys (map (λ name. name.0) names.now)) }
 {
     for name in names {
         numbers.insert(name.0)?;
@@ -17,7 +17,7 @@ fn add_names(numbers: &mut IndexSet<u16>, names: &[NameId]) -> Result<(), AllocE
 }
 
 fn add_step(numbers: &mut IndexSet<u16>, step: &Step) -> Result<(), AllocError>
-    ensures { OnOk result (numbers.new.keys ≡ fold spec.with_number numbers.old.keys (spec.names_in step.now)) }
+    ensures { OnOk result (numbers.new.keys ≡ fold spec.with_id numbers.old.keys (spec.names_of_step step.now)) }
 {
     match step {
         Step::Put(name, _) => {

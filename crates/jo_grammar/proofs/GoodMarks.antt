@@ -12,16 +12,16 @@ use Rattle.jo_grammar.specs.declared.terminal.Terminal.TheVariants as t
 use Rattle.jo_grammar.specs.Operators.{name_token, key_token}
 use Rattle.jo_grammar.specs.Expressions.{Mark}
 use Rattle.jo_grammar.specs.Refusals.{terms}
-use Rattle.jo_grammar.specs.Sound.{IsInRange, IsNumbered, IsNamed, IsKeyed}
+use Rattle.jo_grammar.specs.Sound.{IsInRange, IsInTable, IsNamed, IsKeyed}
 
 module _ (texts : Table) where
   -- the number of the terminal is in range, and its text is in the table
   abbrev pub IsGood : Terminal → Type 0
-  IsGood (t.Ident x) = IsNumbered texts x.text
+  IsGood (t.Ident x) = IsInTable texts x.text
   IsGood (t.Keyword w) = id_in texts (keyword_text w) < length texts
-  IsGood (t.Reserved id) = IsNumbered texts id
+  IsGood (t.Reserved id) = IsInTable texts id
   IsGood (t.Number i) = IsInRange i
-  IsGood (t.Text s) = IsNumbered texts s.text
+  IsGood (t.Text s) = IsInTable texts s.text
   IsGood (t.Punct c) = Unit {0}
   IsGood t.End = Unit {0}
 

@@ -14,9 +14,9 @@ use Rattle.jo_lex.specs.declared.token.TokenKind.{TokenKind}
 use Rattle.jo_lex.specs.declared.token.TokenKind.TheVariants as kind
 use Rattle.jo_lex.specs.declared.refusal.RefusalKind.TheVariants.{BadToken, NumberTooLarge}
 use Rattle.jo_lex.specs.Characters.{Characters, size, is_blank, is_in_line, is_word_part, is_word_start, is_spoiler, begins_with, drop_while}
-use Rattle.jo_lex.specs.Punctuators.{Entry, punctuator_of}
+use Rattle.jo_lex.specs.Punctuators.{Row, punctuator_of}
 use Rattle.jo_lex.specs.Words.{is_reserved}
-use Rattle.jo_lex.specs.Pieces.{Lexeme, word, text, number, punctuator, Piece, gap, lexeme, fault, after_close, closed, comment, word_piece, quoted, text_piece, decimal, judged, number_piece, accepted, punctuator_piece, token_piece, piece}
+use Rattle.jo_lex.specs.Pieces.{Lexeme, word, text, number, punctuator, Piece, gap, lexeme, fault, after_close, closed, comment, word_piece, literal_rest, text_piece, decimal, judged, number_piece, accepted, punctuator_piece, token_piece, piece}
 use Rattle.jo_lex.specs.Tokens.{Progress, Advance, ended, refused, onward, is_one_too_many, identified, word_kind, token_kind, place_after, with_token, taken, next_of, next, going_on, reached, start, last, end_token, IsRead}
 use Rattle.jo_grammar.specs.Sound.{IsInRange}
 
@@ -57,7 +57,7 @@ accepted-range : (value : Option Punct) (rest : Characters) → HasRange (accept
 accepted-range None rest = tt
 accepted-range (Some c) rest = tt
 
-punctuator-range : (found : Option Entry) (cs : Characters) → HasRange (punctuator_piece found cs)
+punctuator-range : (found : Option Row) (cs : Characters) → HasRange (punctuator_piece found cs)
 punctuator-range None cs = tt
 punctuator-range (Some entry) cs = accepted-range entry.1 _
 
@@ -68,12 +68,12 @@ word-range c cs =
 
 token-range : (c : ℕ) (cs : Characters) → HasRange (token_piece c cs)
 token-range c cs =
-    let literal = text_piece (quoted false c cs) in
+    let literal = text_piece (literal_rest false c cs) in
     let operator = punctuator_piece (punctuator_of (c ∷ cs)) (c ∷ cs) in
     let other : Piece = if c == 34 || c == 39 then literal else operator in
     range-if (is_word_start c) (word_piece c cs) (if is_digit c then number_piece c cs else other) (word-range c cs)
     (range-if (is_digit c) (number_piece c cs) other (number-range c cs)
-    (range-if (c == 34 || c == 39) literal operator (text-range (quoted false c cs)) (punctuator-range (punctuator_of (c ∷ cs)) (c ∷ cs))))
+    (range-if (c == 34 || c == 39) literal operator (text-range (literal_rest false c cs)) (punctuator-range (punctuator_of (c ∷ cs)) (c ∷ cs))))
 
 closed-range : (rest : Option Characters) → HasRange (closed rest)
 closed-range None = tt

@@ -12,7 +12,7 @@ use Rattle.jo_grammar.specs.Statements.{items}
 use Rattle.jo_grammar.specs.Refusals.{Within}
 use Rattle.jo_grammar.specs.Declarations.{Found, undeclared}
 use Rattle.jo_value.specs.declared.limits.TheConstants.{MOST_INPUT, MOST_OPEN}
-use Rattle.jo_grammar.specs.Sound.{IsInRange, count_of_props, count_of_accesses, count_of_links, count_of_items, IsNumbered, IsNamed, IsKeyed, Suits, SuitsStatement, SuitItems, IsSound}
+use Rattle.jo_grammar.specs.Sound.{IsInRange, count_of_props, count_of_accesses, count_of_links, count_of_items, IsInTable, IsNamed, IsKeyed, Suits, SuitsStatement, SuitItems, IsSound}
 use Rattle.jo_grammar.proofs.WorkedNames.{ident, a, one, with, show, all, alone, dot, for_let}
 
 -- the table of the cases
@@ -42,7 +42,7 @@ a_key_is_in_range_too h = one_more_is_not h
 abbrev pub past : Literal
 past = record { text = record { 0 = 3 }; is_proto = false }
 
-pub the_last_text_is_in_the_table : IsNumbered texts (record { 0 = 2 })
+pub the_last_text_is_in_the_table : IsInTable texts (record { 0 = 2 })
 the_last_text_is_in_the_table = lit< tt
 
 pub a_variable_past_the_table_is_not : Suits texts (variable (ident 3 0)) → ⊥

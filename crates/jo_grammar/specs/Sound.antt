@@ -42,18 +42,18 @@ count_of_items (perform statement items) = count_of_items items + 1
 
 module _ (texts : Table) where
   -- the table has a text with this id
-  abbrev pub IsNumbered : TextId → Type 0
-  IsNumbered t = t.0 < length texts
+  abbrev pub IsInTable : TextId → Type 0
+  IsInTable t = t.0 < length texts
 
   -- the table has the text of the word
   abbrev pub IsNamed : Name → Type 0
-  IsNamed (word.Ident x) = IsNumbered x.text
+  IsNamed (word.Ident x) = IsInTable x.text
   IsNamed (word.Keyword w) = id_in texts (keyword_text w) < length texts
-  IsNamed (word.Reserved t) = IsNumbered t
+  IsNamed (word.Reserved t) = IsInTable t
 
   abbrev pub IsKeyed : PropKey → Type 0
   IsKeyed (prop_key.Name name) = IsNamed name
-  IsKeyed (prop_key.Text t) = IsNumbered t.text
+  IsKeyed (prop_key.Text t) = IsInTable t.text
   IsKeyed (prop_key.Number i) = IsInRange i
 
   -- ---- numbers, texts, names and lists of a tree
@@ -62,9 +62,9 @@ module _ (texts : Table) where
     -- Each number in an expression is in range, each text and name in it is in the table, and no list in it is too long.
     pub Suits : Tree → Type 0
     Suits (number i) = IsInRange i
-    Suits (literal t) = IsNumbered t.text
+    Suits (literal t) = IsInTable t.text
     Suits (constant w) = Unit {0}
-    Suits (variable x) = IsNumbered x.text
+    Suits (variable x) = IsInTable x.text
     Suits (group e) = Suits e
     Suits (object props comma) = (count_of_props props ≤ MOST_INPUT) × SuitProps props
     Suits (cas o k a b) = Suits o × Suits k × Suits a × Suits b
@@ -98,7 +98,7 @@ module _ (texts : Table) where
 
   abbrev pub SuitBindings : List Binding → Type 0
   SuitBindings [] = Unit {0}
-  SuitBindings (b ∷ bindings) = IsNumbered b.0.text × SuitsOptional b.1 × SuitBindings bindings
+  SuitBindings (b ∷ bindings) = IsInTable b.0.text × SuitsOptional b.1 × SuitBindings bindings
 
   -- a `let`
   abbrev pub SuitsDeclaration : List Binding → Type 0

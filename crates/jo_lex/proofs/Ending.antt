@@ -10,8 +10,8 @@ use Rattle.jo_lex.specs.declared.punct.Punct.{Punct}
 use Rattle.jo_lex.specs.declared.refusal.RefusalKind.TheVariants.{BadToken, NumberTooLarge}
 use Rattle.jo_lex.specs.declared.token.TokenKind.{TokenKind}
 use Rattle.jo_lex.specs.Characters.{Characters, size, is_blank, is_in_line, is_word_part, is_word_start, is_spoiler, begins_with, drop_while}
-use Rattle.jo_lex.specs.Punctuators.{Entry, fits, longer, longest, table, punctuator_of}
-use Rattle.jo_lex.specs.Pieces.{word, text, number, Piece, gap, lexeme, fault, after_close, closed, comment, word_piece, is_escapable, with_front, quoted, text_piece, decimal, judged, number_piece, accepted, punctuator_piece, token_piece, piece}
+use Rattle.jo_lex.specs.Punctuators.{Row, fits, longer, longest, table, punctuator_of}
+use Rattle.jo_lex.specs.Pieces.{word, text, number, Piece, gap, lexeme, fault, after_close, closed, comment, word_piece, is_escapable, with_bytes, literal_rest, text_piece, decimal, judged, number_piece, accepted, punctuator_piece, token_piece, piece}
 use Rattle.jo_lex.specs.Tokens.{Progress, Advance, ended, refused, onward, token_kind, with_token, taken, next_of, next, going_on, reached, last}
 use Rattle.jo_lex.proofs.Texts.{encode_nonempty}
 
@@ -71,7 +71,7 @@ ends-wider : (found : Option (List ℕ × Characters)) (m n : ℕ) → Ends m fo
 ends-wider None m n h le = tt
 ends-wider (Some p) m n h le = omega arith
 
-ends-front : (bytes : List ℕ) (found : Option (List ℕ × Characters)) (n : ℕ) → Ends n found → Ends n (with_front bytes found)
+ends-front : (bytes : List ℕ) (found : Option (List ℕ × Characters)) (n : ℕ) → Ends n found → Ends n (with_bytes bytes found)
 ends-front bytes None n h = tt
 ends-front bytes (Some p) n h = h
 
@@ -79,23 +79,23 @@ ends-if : (b : Bool) (n : ℕ) (x y : Option (List ℕ × Characters)) → Ends 
 ends-if true n x y h k = h
 ends-if false n x y h k = k
 
-quoted-ends : (escaped : Bool) (quote : ℕ) (cs : Characters) → Ends (size cs) (quoted escaped quote cs)
-quoted-ends true quote [] = tt
-quoted-ends false quote [] = tt
-quoted-ends true quote (c ∷ cs) =
-    let taken : Option (List ℕ × Characters) = with_front (encode_utf8 c) (quoted false quote cs) in
+literal_rest-ends : (escaped : Bool) (quote : ℕ) (cs : Characters) → Ends (size cs) (literal_rest escaped quote cs)
+literal_rest-ends true quote [] = tt
+literal_rest-ends false quote [] = tt
+literal_rest-ends true quote (c ∷ cs) =
+    let taken : Option (List ℕ × Characters) = with_bytes (encode_utf8 c) (literal_rest false quote cs) in
     ends-wider _ (size cs) (size (c ∷ cs))
-    (ends-if (is_escapable c) (size cs) taken None (ends-front (encode_utf8 c) (quoted false quote cs) (size cs) (quoted-ends false quote cs)) tt)
+    (ends-if (is_escapable c) (size cs) taken None (ends-front (encode_utf8 c) (literal_rest false quote cs) (size cs) (literal_rest-ends false quote cs)) tt)
     (omega (arith, size-cons c cs))
-quoted-ends false quote (c ∷ cs) =
-    let taken : Option (List ℕ × Characters) = with_front (encode_utf8 c) (quoted false quote cs) in
+literal_rest-ends false quote (c ∷ cs) =
+    let taken : Option (List ℕ × Characters) = with_bytes (encode_utf8 c) (literal_rest false quote cs) in
     let plain : Option (List ℕ × Characters) = if c == 10 || c == 13 then None else taken in
-    let other : Option (List ℕ × Characters) = if c == 92 then quoted true quote cs else plain in
+    let other : Option (List ℕ × Characters) = if c == 92 then literal_rest true quote cs else plain in
     let closes : Option (List ℕ × Characters) = Some ([], cs) in
     ends-wider _ (size cs) (size (c ∷ cs))
     (ends-if (c == quote) (size cs) closes other (omega arith)
-    (ends-if (c == 92) (size cs) (quoted true quote cs) plain (quoted-ends true quote cs)
-    (ends-if (c == 10 || c == 13) (size cs) None taken tt (ends-front (encode_utf8 c) (quoted false quote cs) (size cs) (quoted-ends false quote cs)))))
+    (ends-if (c == 92) (size cs) (literal_rest true quote cs) plain (literal_rest-ends true quote cs)
+    (ends-if (c == 10 || c == 13) (size cs) None taken tt (ends-front (encode_utf8 c) (literal_rest false quote cs) (size cs) (literal_rest-ends false quote cs)))))
     (omega (arith, size-cons c cs))
 
 text-leaves : (n : ℕ) (found : Option (List ℕ × Characters)) → Ends n found → Leaves n (text_piece found)
@@ -113,23 +113,23 @@ number-leaves c cs =
     leaves-if (size cs) (c == 48) (judged 0 cs) (judged n (drop_while is_digit cs)) (judged-leaves (size cs) 0 cs (omega arith)) (judged-leaves (size cs) n (drop_while is_digit cs) (size-drop_while is_digit cs))
 
 -- a punctuator has a character
-abbrev IsLong : Option Entry → Type 0
+abbrev IsLong : Option Row → Type 0
 IsLong None = Unit {0}
 IsLong (Some entry) = 0 < length entry.0
 
-longer-step : (p : Entry) (q : Entry) (b : Bool) → 0 < length p.0 → 0 < length q.0 → 0 < length (if b then q else p).0
+longer-step : (p : Row) (q : Row) (b : Bool) → 0 < length p.0 → 0 < length q.0 → 0 < length (if b then q else p).0
 longer-step p q true h k = k
 longer-step p q false h k = h
 
-longer-long : (p : Entry) (found : Option Entry) → 0 < length p.0 → IsLong found → 0 < length (longer p found).0
+longer-long : (p : Row) (found : Option Row) → 0 < length p.0 → IsLong found → 0 < length (longer p found).0
 longer-long p None h k = h
 longer-long p (Some q) h k = longer-step p q _ h k
 
-long-step : (p : Entry) (found : Option Entry) (b : Bool) → 0 < length p.0 → IsLong found → IsLong (if b then Some (longer p found) else found)
+long-step : (p : Row) (found : Option Row) (b : Bool) → 0 < length p.0 → IsLong found → IsLong (if b then Some (longer p found) else found)
 long-step p found true h k = longer-long p found h k
 long-step p found false h k = k
 
-longest-long : (ps : List Entry) (cs : Characters) → list_all (λ p. nat_lt 0 (length p.0)) ps ≡ true → IsLong (longest ps cs)
+longest-long : (ps : List Row) (cs : Characters) → list_all (λ p. nat_lt 0 (length p.0)) ps ≡ true → IsLong (longest ps cs)
 longest-long [] cs e = tt
 longest-long (p ∷ ps) cs e = let parts = and_parts (nat_lt 0 (length p.0)) (list_all (λ q. nat_lt 0 (length q.0)) ps) e in long-step p (longest ps cs) (fits p.0 cs) (ltb-true 0 (length p.0) parts.0) (longest-long ps cs parts.1)
 
@@ -146,7 +146,7 @@ accepted-leaves : (n : ℕ) (value : Option Punct) (rest : Characters) → size 
 accepted-leaves n None rest h = tt
 accepted-leaves n (Some punct) rest h = h
 
-punctuator-leaves : (c : ℕ) (cs : Characters) (found : Option Entry) → IsLong found → Leaves (size cs) (punctuator_piece found (c ∷ cs))
+punctuator-leaves : (c : ℕ) (cs : Characters) (found : Option Row) → IsLong found → Leaves (size cs) (punctuator_piece found (c ∷ cs))
 punctuator-leaves c cs None h = tt
 punctuator-leaves c cs (Some entry) h = accepted-leaves (size cs) entry.1 _ (drop-shorter (length entry.0) c cs h)
 
@@ -171,12 +171,12 @@ word-leaves c cs =
 token-leaves : (c : ℕ) (cs : Characters) → Leaves (size cs) (token_piece c cs)
 token-leaves c cs =
     let n = size cs in
-    let literal = text_piece (quoted false c cs) in
+    let literal = text_piece (literal_rest false c cs) in
     let operator = punctuator_piece (punctuator_of (c ∷ cs)) (c ∷ cs) in
     let other : Piece = if c == 34 || c == 39 then literal else operator in
     leaves-if n (is_word_start c) (word_piece c cs) (if is_digit c then number_piece c cs else other) (word-leaves c cs)
     (leaves-if n (is_digit c) (number_piece c cs) other (number-leaves c cs)
-    (leaves-if n (c == 34 || c == 39) literal operator (text-leaves n (quoted false c cs) (quoted-ends false c cs)) (operator-leaves c cs)))
+    (leaves-if n (c == 34 || c == 39) literal operator (text-leaves n (literal_rest false c cs) (literal_rest-ends false c cs)) (operator-leaves c cs)))
 
 -- a piece takes its first character at least
 pub piece-leaves : (c : ℕ) (cs : Characters) → Leaves (size cs) (piece c cs)

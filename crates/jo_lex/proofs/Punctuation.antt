@@ -10,7 +10,7 @@ use Rattle.jo_lex.specs.Characters.{begins_with}
 use Rattle.jo_value.specs.Texts.{is_digit}
 use Rattle.std.specs.Str.{bytes_eq, chars, encode_utf8_all, IsUtf8, IsAscii}
 use Rattle.jo_lex.specs.declared.punct.Punct.{Punct}
-use Rattle.jo_lex.specs.Punctuators.{Entry, fits, longer, longest}
+use Rattle.jo_lex.specs.Punctuators.{Row, fits, longer, longest}
 use Rattle.jo_lex.specs.inner.Views.{entries_of, is_ascii, is_falling}
 
 pub IsAscii-from_test : (bs : List ℕ) → is_ascii bs ≡ true → IsAscii bs
@@ -50,29 +50,29 @@ fits-front p cs rest b e f = rw (starts_with-yes p cs rest e, drop-front p cs re
 
 -- ---- the longest of a table whose longer entries stand first
 
-longer_than : (n : ℕ) (found : Option Entry) → Type 0
+longer_than : (n : ℕ) (found : Option Row) → Type 0
 longer_than n None = Unit {0}
 longer_than n (Some q) = length q.0 ≤ n
 
-longer-first : (p : Entry) (found : Option Entry) → longer_than (length p.0) found → longer p found ≡ p
+longer-first : (p : Row) (found : Option Row) → longer_than (length p.0) found → longer p found ≡ p
 unfolding longer_than
 longer-first p None h = refl
 longer-first p (Some q) h = ap (λ b. cond b q p) (le-ltb (length p.0) (length q.0) h)
 
-longer_than-more : (m n : ℕ) (found : Option Entry) → m ≤ n → longer_than m found → longer_than n found
+longer_than-more : (m n : ℕ) (found : Option Row) → m ≤ n → longer_than m found → longer_than n found
 unfolding longer_than
 longer_than-more m n None le h = tt
 longer_than-more m n (Some q) le h = omega arith
 
 -- the parts of the test of a table
-pub falling_parts : (n : ℕ) (p : Entry) (ps : List Entry) → is_falling n (p ∷ ps) ≡ true → (is_ascii p.0 ≡ true) × (0 < length p.0) × (length p.0 ≤ n) × (is_falling (length p.0) ps ≡ true)
+pub falling_parts : (n : ℕ) (p : Row) (ps : List Row) → is_falling n (p ∷ ps) ≡ true → (is_ascii p.0 ≡ true) × (0 < length p.0) × (length p.0 ≤ n) × (is_falling (length p.0) ps ≡ true)
 falling_parts n p ps e =
     let a = and_parts (is_ascii p.0 && nat_lt 0 (length p.0) && nat_le (length p.0) n) (is_falling (length p.0) ps) e in
     let b = and_parts (is_ascii p.0 && nat_lt 0 (length p.0)) (nat_le (length p.0) n) a.0 in
     let d = and_parts (is_ascii p.0) (nat_lt 0 (length p.0)) b.0 in
     (d.0, ltb-true 0 (length p.0) d.1, leb-true (length p.0) n b.1, a.1)
 
-longest-short : (n : ℕ) (ps : List Entry) (cs : List ℕ) → is_falling n ps ≡ true → longer_than n (longest ps cs)
+longest-short : (n : ℕ) (ps : List Row) (cs : List ℕ) → is_falling n ps ≡ true → longer_than n (longest ps cs)
 longest-short n [] cs e = unfold longer_than in tt
 longest-short n (p ∷ ps) cs e =
     let parts = falling_parts n p ps e in
@@ -84,10 +84,10 @@ longest-short n (p ∷ ps) cs e =
     by_fit false f le below = rw f (longer_than-more (length p.0) n (longest ps cs) le below)
 
 -- the first entry that fits is the longest
-pub longest-first : (n : ℕ) (p : Entry) (ps : List Entry) (cs : List ℕ) → is_falling n (p ∷ ps) ≡ true → fits p.0 cs ≡ true → longest (p ∷ ps) cs ≡ Some p
+pub longest-first : (n : ℕ) (p : Row) (ps : List Row) (cs : List ℕ) → is_falling n (p ∷ ps) ≡ true → fits p.0 cs ≡ true → longest (p ∷ ps) cs ≡ Some p
 longest-first n p ps cs e f = rw f (ap Some (longer-first p (longest ps cs) (longest-short (length p.0) ps cs (falling_parts n p ps e).3)))
 
-pub longest-later : (p : Entry) (ps : List Entry) (cs : List ℕ) → fits p.0 cs ≡ false → longest (p ∷ ps) cs ≡ longest ps cs
+pub longest-later : (p : Row) (ps : List Row) (cs : List ℕ) → fits p.0 cs ≡ false → longest (p ∷ ps) cs ≡ longest ps cs
 longest-later p ps cs f = rw f
 
 pub entries_head : (rows : List (Bor (List ℕ) × Option Punct)) (d : Bor (List ℕ) × Option Punct) → 1 ≤ length rows

@@ -5,7 +5,7 @@ use Rattle.jo_lex.specs.declared.punct.Punct.TheVariants.{Question, Same}
 use Rattle.jo_lex.specs.declared.refusal.RefusalKind.TheVariants.{BadToken, NumberTooLarge}
 use Rattle.jo_lex.specs.Punctuators.{table, punctuator_of}
 use Rattle.jo_lex.specs.Words.{reserved_words}
-use Rattle.jo_lex.specs.Pieces.{lexeme, number, gap, fault, comment, quoted, decimal, judged, piece}
+use Rattle.jo_lex.specs.Pieces.{lexeme, number, gap, fault, comment, literal_rest, decimal, judged, piece}
 use Rattle.jo_lex.specs.Tokens.{IsRead, start, end_token, reached}
 
 -- the punctuators and the reserved words are 57 each
@@ -49,17 +49,17 @@ a_quotient : comment (codes "2") ≡ None
 a_quotient = refl
 
 -- what stands after a `'`: the other quote stands for itself, and so does an escaped one
-quotes : quoted false 39 (codes "a\\'\"b'c") ≡ Some (codes "a'\"b", codes "c")
+quotes : literal_rest false 39 (codes "a\\'\"b'c") ≡ Some (codes "a'\"b", codes "c")
 unfolding lib.Utf8.encode
 quotes = refl
 
-other_escape : quoted false 39 (codes "\\n'") ≡ None
+other_escape : literal_rest false 39 (codes "\\n'") ≡ None
 other_escape = refl
 
-over_two_lines : quoted false 39 (10 ∷ 39 ∷ []) ≡ None
+over_two_lines : literal_rest false 39 (10 ∷ 39 ∷ []) ≡ None
 over_two_lines = refl
 
-line_separator : quoted false 39 (0x2028 ∷ 39 ∷ []) ≡ Some (0xE2 ∷ 0x80 ∷ 0xA8 ∷ [], [])
+line_separator : literal_rest false 39 (0x2028 ∷ 39 ∷ []) ≡ Some (0xE2 ∷ 0x80 ∷ 0xA8 ∷ [], [])
 unfolding lib.Utf8.encode
 line_separator = refl
 

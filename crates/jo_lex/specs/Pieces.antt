@@ -8,7 +8,7 @@ use Rattle.jo_lex.specs.declared.refusal.RefusalKind.{RefusalKind}
 use Rattle.jo_lex.specs.declared.refusal.RefusalKind.TheVariants.{BadToken, NumberTooLarge}
 use Rattle.jo_lex.specs.Characters.{Characters, is_blank, is_in_line, is_word_start, is_word_part, is_spoiler, begins_with, drop_while}
 use Rattle.jo_value.specs.Texts.{is_digit}
-use Rattle.jo_lex.specs.Punctuators.{Entry, punctuator_of}
+use Rattle.jo_lex.specs.Punctuators.{Row, punctuator_of}
 
 -- a token without its place: a word's bytes, a number, the bytes that a text literal stands for, or a punctuator
 pub data Lexeme : Type 0 where
@@ -55,20 +55,20 @@ abbrev pub is_escapable : ℕ → Bool
 is_escapable c = c == 92 || c == 34 || c == 39
 
 -- what a literal stands for, with these bytes before it
-abbrev pub with_front : List ℕ → Option (List ℕ × Characters) → Option (List ℕ × Characters)
-with_front bytes None = None
-with_front bytes (Some p) = Some (bytes ++ p.0, p.1)
+abbrev pub with_bytes : List ℕ → Option (List ℕ × Characters) → Option (List ℕ × Characters)
+with_bytes bytes None = None
+with_bytes bytes (Some p) = Some (bytes ++ p.0, p.1)
 
 -- After the opening quote: the bytes that the literal stands for, and what is left after the closing quote. A character
 -- stands for itself; after a backslash it has to be one of the three.
-abbrev pub quoted : Bool → ℕ → Characters → Option (List ℕ × Characters)
-quoted escaped quote [] = None
-quoted true quote (c ∷ cs) = if is_escapable c then with_front (encode_utf8 c) (quoted false quote cs) else None
-quoted false quote (c ∷ cs) =
+abbrev pub literal_rest : Bool → ℕ → Characters → Option (List ℕ × Characters)
+literal_rest escaped quote [] = None
+literal_rest true quote (c ∷ cs) = if is_escapable c then with_bytes (encode_utf8 c) (literal_rest false quote cs) else None
+literal_rest false quote (c ∷ cs) =
     if c == quote then Some ([], cs)
-    else (if c == 92 then quoted true quote cs
+    else (if c == 92 then literal_rest true quote cs
     else (if c == 10 || c == 13 then None
-    else with_front (encode_utf8 c) (quoted false quote cs)))
+    else with_bytes (encode_utf8 c) (literal_rest false quote cs)))
 
 -- a text literal, unless it is not closed or has another escape
 abbrev pub text_piece : Option (List ℕ × Characters) → Piece
@@ -97,7 +97,7 @@ accepted None rest = fault BadToken
 accepted (Some punct) rest = lexeme (punctuator punct) rest
 
 -- the punctuator of these characters
-abbrev pub punctuator_piece : Option Entry → Characters → Piece
+abbrev pub punctuator_piece : Option Row → Characters → Piece
 punctuator_piece None cs = fault BadToken
 punctuator_piece (Some entry) cs = accepted entry.1 (drop (length entry.0) cs)
 
@@ -106,7 +106,7 @@ punctuator_piece (Some entry) cs = accepted entry.1 (drop (length entry.0) cs)
 -- a word, a number, a text or a punctuator
 abbrev pub token_piece : ℕ → Characters → Piece
 token_piece c cs =
-    if is_word_start c then word_piece c cs else (if is_digit c then number_piece c cs else (if c == 34 || c == 39 then text_piece (quoted false c cs) else punctuator_piece (punctuator_of (c ∷ cs)) (c ∷ cs)))
+    if is_word_start c then word_piece c cs else (if is_digit c then number_piece c cs else (if c == 34 || c == 39 then text_piece (literal_rest false c cs) else punctuator_piece (punctuator_of (c ∷ cs)) (c ∷ cs)))
 
 -- the piece at the front: all blanks there, one comment, one token, or what is wrong
 unfoldable pub piece : ℕ → Characters → Piece

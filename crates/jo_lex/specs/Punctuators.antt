@@ -9,8 +9,8 @@ use Rattle.jo_lex.specs.Characters.{Characters, begins_with}
 use Rattle.jo_value.specs.Texts.{is_digit}
 
 -- a punctuator's characters, which are ASCII, and its value where it is accepted
-abbrev pub Entry : Type 0
-Entry = List ℕ × Option Punct
+abbrev pub Row : Type 0
+Row = List ℕ × Option Punct
 
 -- the punctuators that are accepted, with their values
 abbrev pub accepted_ones : List (String × Punct)
@@ -27,7 +27,7 @@ other_ones =
     ∷ "**=" ∷ "<<=" ∷ ">>=" ∷ ">>>=" ∷ "&=" ∷ "|=" ∷ "^=" ∷ "&&=" ∷ "||=" ∷ "??=" ∷ "=>" ∷ "/" ∷ "/=" ∷ []
 
 -- the punctuators of ECMA-262
-unfoldable pub table : List Entry
+unfoldable pub table : List Row
 table = map (λ p. (codes p.0, Some p.1)) accepted_ones ++ map (λ p. (codes p, None)) other_ones
 
 -- the script begins with the punctuator; `?.` is none before a digit
@@ -35,15 +35,15 @@ abbrev pub fits : List ℕ → Characters → Bool
 fits p cs = starts_with nat_eq cs p && not (bytes_eq p (codes "?.") && begins_with is_digit (drop (length p) cs))
 
 -- the entry, unless the other is longer
-abbrev pub longer : Entry → Option Entry → Entry
+abbrev pub longer : Row → Option Row → Row
 longer p None = p
 longer p (Some q) = if nat_lt (length p.0) (length q.0) then q else p
 
 -- the longest entry that the script begins with
-abbrev pub longest : List Entry → Characters → Option Entry
+abbrev pub longest : List Row → Characters → Option Row
 longest [] cs = None
 longest (p ∷ ps) cs = if fits p.0 cs then Some (longer p (longest ps cs)) else longest ps cs
 
 -- the punctuator at the front, accepted or not
-unfoldable pub punctuator_of : Characters → Option Entry
+unfoldable pub punctuator_of : Characters → Option Row
 punctuator_of cs = longest table cs

@@ -56,10 +56,14 @@ fn stroke_of(escaped: bool, quote: char, c: char) -> Stroke
 }
 
 // What the literal with this quote stands for, and what is left after its closing quote.
-fn quoted(alloc: Global, quote: char, input: &str) -> Result<Option<(String, &str)>, AllocError>
+fn literal_rest(
+    alloc: Global,
+    quote: char,
+    input: &str,
+) -> Result<Option<(String, &str)>, AllocError>
     ensures value { IfOk result (λ found.
         option_map (λ (string, rest). (string_bytes string, chars rest.now)) found
-        ≡ spec.quoted false quote (chars input.now)) }
+        ≡ spec.literal_rest false quote (chars input.now)) }
     ensures within { IfOk result (λ found. IfSome found (λ (string, rest).
         length rest.now ≤ length input.now)) }
 {
@@ -84,10 +88,10 @@ fn quoted(alloc: Global, quote: char, input: &str) -> Result<Option<(String, &st
 // The text literal with this quote, after it.
 pub(crate) fn text_literal(alloc: Global, quote: char, input: &str) -> Result<Piece<'_>, AllocError>
     ensures value { IfOk result (λ found.
-        piece_of found ≡ spec.text_piece (spec.quoted false quote (chars input.now))) }
+        piece_of found ≡ spec.text_piece (spec.literal_rest false quote (chars input.now))) }
     ensures within { IfOk result (IsWithin (length input.now)) }
 {
-    match quoted(alloc, quote, input)? {
+    match literal_rest(alloc, quote, input)? {
         Some((string, rest)) if string.len() <= MOST_TEXT_BYTES => {
             Ok(Piece::Token(Lexeme::Text(string), rest))
         }

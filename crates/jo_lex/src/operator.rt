@@ -2,7 +2,7 @@
 ghost use Rattle.std.specs.Prelude.{◌≡◌, ◌+◌, ◌-◌, ◌<◌, [], ◌∷◌, true, false, length, take, drop, MatchOption, Some, None};
 ghost use Rattle.std.specs.Str.{chars};
 ghost use Rattle.jo_lex.specs.Pieces as spec;
-ghost use Rattle.jo_lex.specs.Punctuators.{fits, longest, punctuator_of, Entry};
+ghost use Rattle.jo_lex.specs.Punctuators.{fits, longest, punctuator_of, Row};
 ghost use Rattle.jo_lex.specs.inner.Views.{piece_of, IsWithin, entries_of, is_ascii, is_falling};
 
 use crate::character::{Class, begins};
@@ -32,7 +32,7 @@ fn lookup<'a>(
 ) -> Option<(Option<Punct>, &'a str)>
     requires { is_falling 4 (entries_of table.now) ≡ true }
     ensures { MatchOption result (longest (entries_of table.entry.now) (chars input.now) ≡ None)
-        (λ (value, rest). (entry : Entry)
+        (λ (value, rest). (entry : Row)
         × (longest (entries_of table.entry.now) (chars input.now) ≡ Some entry) × (entry.1 ≡ value)
         × (chars rest.now ≡ drop (length entry.0) (chars input.now))
         × (length rest.now < length input.now)) }

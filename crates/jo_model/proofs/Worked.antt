@@ -20,7 +20,7 @@ use Rattle.jo_model.specs.Heaps.{Heap, shared}
 use Rattle.jo_model.specs.One.{one}
 use Rattle.jo_model.specs.History.{Entry, History, IsLegal, IsLawfulSpent, is_change, calls_of}
 use Rattle.jo_model.specs.Printed.{line_of}
-use Rattle.jo_model.specs.Rendered.{outcome_text, run_text, object_line, heap_text}
+use Rattle.jo_model.specs.Rendered.{outcome_bytes, run_bytes, object_line, heap_bytes}
 use Rattle.jo_model.specs.Placed.{HeapChange, after, PlacedCall, IsInOwnOrder, IsPlacedChange, IsPlacedUnchanging, weave}
 
 -- The words of the cases.
@@ -474,16 +474,16 @@ unfolding digits
 a_name_without_a_text_reads_as_the_empty_text = refl
 
 -- each line of a script stands after its pass, an empty one too
-pub lines_stand_after_the_pass : run_text 3 (codes "a b\n\nc\n") (outcome_text outcome.OutputFull) ≡ codes "3| a b\n3| \n3| c\n3= OutputFull\n"
+pub lines_stand_after_the_pass : run_bytes 3 (codes "a b\n\nc\n") (outcome_bytes outcome.OutputFull) ≡ codes "3| a b\n3| \n3| c\n3= OutputFull\n"
 unfolding digits
 lines_stand_after_the_pass = refl
 
 -- a script that printed nothing has the line of its outcome alone
-pub no_line_stands_before_the_outcome : run_text 1 [] (outcome_text outcome.Done) ≡ codes "1= done\n"
+pub no_line_stands_before_the_outcome : run_bytes 1 [] (outcome_bytes outcome.Done) ≡ codes "1= done\n"
 unfolding digits
 no_line_stands_before_the_outcome = refl
 
 -- objects stand in order of pass and serial
-pub objects_stand_in_order : heap_text [] ((empty_object ∷ []) ∷ (empty_object ∷ object [] ((0, value.Null) ∷ []) ∷ []) ∷ []) ≡ codes "#0.0 {}\n#1.0 {}\n#1.1 {0: null}\n"
+pub objects_stand_in_order : heap_bytes [] ((empty_object ∷ []) ∷ (empty_object ∷ object [] ((0, value.Null) ∷ []) ∷ []) ∷ []) ≡ codes "#0.0 {}\n#1.0 {}\n#1.1 {0: null}\n"
 unfolding digits
 objects_stand_in_order = refl

@@ -6,18 +6,18 @@ use Rattle.jo_value.specs.declared.value.ObjId.{ObjId}
 use Rattle.jo_value.specs.declared.value.Value.{Value}
 use Rattle.jo_value.specs.declared.value.Value.TheVariants.{Undefined, Null, Bool, Int, Text, Object}
 
-abbrev pub object_text : ObjId → List ℕ
-object_text o = codes "#" ++ decimal o.pass ++ codes "." ++ decimal o.serial
+abbrev pub object_bytes : ObjId → List ℕ
+object_bytes o = codes "#" ++ decimal o.pass ++ codes "." ++ decimal o.serial
 
 -- a value as it is written in a line
-abbrev pub value_text : Table → Value → List ℕ
-value_text texts Undefined = codes "undefined"
-value_text texts Null = codes "null"
-value_text texts (Bool true) = codes "true"
-value_text texts (Bool false) = codes "false"
-value_text texts (Int i) = signed_decimal i
-value_text texts (Text t) = text_in texts t.0
-value_text texts (Object o) = object_text o
+abbrev pub value_bytes : Table → Value → List ℕ
+value_bytes texts Undefined = codes "undefined"
+value_bytes texts Null = codes "null"
+value_bytes texts (Bool true) = codes "true"
+value_bytes texts (Bool false) = codes "false"
+value_bytes texts (Int i) = signed_decimal i
+value_bytes texts (Text t) = text_in texts t.0
+value_bytes texts (Object o) = object_bytes o
 
 -- fragments one after another, with a fragment between each two
 abbrev pub joined : List ℕ → List (List ℕ) → List ℕ
@@ -26,4 +26,4 @@ joined between (t ∷ texts) = t ++ flat_map (λ u. between ++ u) texts
 
 -- the line that these values print, without its end
 abbrev pub line_of : Table → List Value → List ℕ
-line_of texts values = joined (codes " ") (map (value_text texts) values)
+line_of texts values = joined (codes " ") (map (value_bytes texts) values)

@@ -12,8 +12,8 @@ use Rattle.jo_lex.specs.declared.refusal.RefusalKind.{RefusalKind}
 use Rattle.jo_lex.specs.declared.refusal.RefusalKind.TheVariants as kind
 use Rattle.jo_lex.specs.declared.punct.Punct.{Punct}
 use Rattle.jo_lex.specs.Characters.{Characters, begins_with, is_spoiler, is_word_start, is_word_part, is_blank, drop_while}
-use Rattle.jo_lex.specs.Punctuators.{Entry, punctuator_of}
-use Rattle.jo_lex.specs.Pieces.{Lexeme, word, number, text, Piece, gap, lexeme, fault, after_close, closed, comment, limited, word_piece, quoted, text_piece, judged, decimal, number_piece, accepted, punctuator_piece, token_piece, piece}
+use Rattle.jo_lex.specs.Punctuators.{Row, punctuator_of}
+use Rattle.jo_lex.specs.Pieces.{Lexeme, word, number, text, Piece, gap, lexeme, fault, after_close, closed, comment, limited, word_piece, literal_rest, text_piece, judged, decimal, number_piece, accepted, punctuator_piece, token_piece, piece}
 use Rattle.jo_lex.specs.Tokens.{Progress, Advance, ended, refused, onward, with_token, taken, next_of, last, token_kind}
 use Rattle.jo_grammar.specs.Cuts.{Section}
 use Rattle.jo_grammar.specs.Sets.{begun, IsFirstUnread}
@@ -74,17 +74,17 @@ accepted-fine : (o : Option Punct) (rest : Characters) → Fine (accepted o rest
 accepted-fine None rest = tt
 accepted-fine (Some p) rest = tt
 
-punctuator-fine : (o : Option Entry) (cs : Characters) → Fine (punctuator_piece o cs)
+punctuator-fine : (o : Option Row) (cs : Characters) → Fine (punctuator_piece o cs)
 punctuator-fine None cs = tt
 punctuator-fine (Some e) cs = accepted-fine e.1 (drop (length e.0) cs)
 
 token-fine : (c : ℕ) (cs : Characters) → Fine (token_piece c cs)
 token-fine c cs =
-    let text_or_sign = if c == 34 || c == 39 then text_piece (quoted false c cs) else punctuator_piece (punctuator_of (c ∷ cs)) (c ∷ cs) in
+    let text_or_sign = if c == 34 || c == 39 then text_piece (literal_rest false c cs) else punctuator_piece (punctuator_of (c ∷ cs)) (c ∷ cs) in
     fine_if (is_word_start c) (word_piece c cs) (if is_digit c then number_piece c cs else text_or_sign)
     (limited-fine word (encode_utf8_all (c ∷ take_while is_word_part cs)) (drop_while is_word_part cs))
     (fine_if (is_digit c) (number_piece c cs) text_or_sign (number-fine c cs)
-    (fine_if (c == 34 || c == 39) (text_piece (quoted false c cs)) (punctuator_piece (punctuator_of (c ∷ cs)) (c ∷ cs)) (text-fine (quoted false c cs)) (punctuator-fine (punctuator_of (c ∷ cs)) (c ∷ cs))))
+    (fine_if (c == 34 || c == 39) (text_piece (literal_rest false c cs)) (punctuator_piece (punctuator_of (c ∷ cs)) (c ∷ cs)) (text-fine (literal_rest false c cs)) (punctuator-fine (punctuator_of (c ∷ cs)) (c ∷ cs))))
 
 piece-fine : (c : ℕ) (cs : Characters) → Fine (piece c cs)
 unfolding piece

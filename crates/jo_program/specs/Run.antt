@@ -12,14 +12,14 @@ use Rattle.jo_program.specs.declared.status.Status.{Status}
 use Rattle.jo_program.specs.declared.status.Status.TheVariants as status
 
 -- the exit code of each status
-abbrev pub status_number : Status → ℕ
-status_number status.Done = 0
-status_number status.Usage = 1
-status_number status.Refused = 2
-status_number status.TooLarge = 3
-status_number status.ReadFault = 4
-status_number status.WriteFault = 5
-status_number status.Memory = 7
+abbrev pub exit_code_of : Status → ℕ
+exit_code_of status.Done = 0
+exit_code_of status.Usage = 1
+exit_code_of status.Refused = 2
+exit_code_of status.TooLarge = 3
+exit_code_of status.ReadFault = 4
+exit_code_of status.WriteFault = 5
+exit_code_of status.Memory = 7
 
 -- the status for what is said of an input
 abbrev pub status_of : Verdict → Status

@@ -24,11 +24,11 @@ pub enum Status {
 }
 
 impl Status {
-    ghost use Rattle.jo_program.specs.Run.{status_number};
+    ghost use Rattle.jo_program.specs.Run.{exit_code_of};
 
     /// The exit code of the program.
     pub fn exit_code(self) -> ExitCode
-        ensures { exit_status result ≡ status_number self }
+        ensures { exit_status result ≡ exit_code_of self }
     {
         ExitCode::from(match self {
             Status::Done => 0,

@@ -4,15 +4,15 @@ use Rattle.std.specs.Prelude.{◌==◌, if◌then◌else◌}
 use Rattle.jo_model.specs.Rendered.{headed}
 
 -- a byte, with the head before it where a line begins
-abbrev byte_text : List ℕ → Bool → ℕ → List ℕ
-byte_text head begins b = (if begins then head else []) ++ b ∷ []
+abbrev byte_bytes : List ℕ → Bool → ℕ → List ℕ
+byte_bytes head begins b = (if begins then head else []) ++ b ∷ []
 
-headed-cons : (head : List ℕ) (begins : Bool) (b : ℕ) (lines : List ℕ) → headed head begins (b ∷ lines) ≡ byte_text head begins b ++ headed head (b == 10) lines
+headed-cons : (head : List ℕ) (begins : Bool) (b : ℕ) (lines : List ℕ) → headed head begins (b ∷ lines) ≡ byte_bytes head begins b ++ headed head (b == 10) lines
 headed-cons head true b lines = sym (append_assoc head (b ∷ []) (headed head (b == 10) lines))
 headed-cons head false b lines = refl
 
 headed-step : (head text more here rest : List ℕ) (begins : Bool) (b : ℕ) (lines : List ℕ)
-    → here ≡ byte_text head begins b → more ≡ text ++ here → rest ≡ b ∷ lines
+    → here ≡ byte_bytes head begins b → more ≡ text ++ here → rest ≡ b ∷ lines
     → more ++ headed head (b == 10) lines ≡ text ++ headed head begins rest
 headed-step head text more here rest begins b lines byte added first =
     ap (λ t. t ++ headed head (b == 10) lines) added
@@ -28,6 +28,6 @@ pub headed-more : (head lines text more whole : List ℕ) (begins : Bool) (i d :
     → more ++ headed head (get_or lines i d == 10) (drop (i + 1) lines) ≡ whole
 headed-more head lines text more whole begins i d lt added kept =
     let next : suc i ≡ i + 1 = omega arith in
-    headed-step head text more (byte_text head begins (get_or lines i d)) (drop i lines) begins (get_or lines i d) (drop (i + 1) lines)
+    headed-step head text more (byte_bytes head begins (get_or lines i d)) (drop i lines) begins (get_or lines i d) (drop (i + 1) lines)
     refl (added ∙ append_assoc text (if begins then head else []) (get_or lines i d ∷ [])) (drop-cons lines i d lt ∙ ap (λ k. get_or lines i d ∷ drop k lines) next)
     ∙ kept

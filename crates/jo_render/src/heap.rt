@@ -1,7 +1,7 @@
 // All objects: a line for each, in order of pass and serial.
 ghost use Rattle.std.specs.Prelude.{◌≡◌, ◌++◌, OnOk};
 ghost use Rattle.std.specs.List.{enumerate_from, flat_map};
-ghost use Rattle.jo_model.specs.Rendered.{object_line, heap_text};
+ghost use Rattle.jo_model.specs.Rendered.{object_line, heap_bytes};
 
 use crate::properties::add_properties;
 use jo_model::{PlainHeap, PlainObject};
@@ -17,7 +17,7 @@ pub fn add_heap(
     texts: &Texts,
     heap: &PlainHeap,
 ) -> Result<(), AllocError>
-    ensures { OnOk result (output.new.items ≡ output.old.items ++ heap_text texts.now heap.now) }
+    ensures { OnOk result (output.new.items ≡ output.old.items ++ heap_bytes texts.now heap.now) }
 {
     for pass in 0..heap.passes() {
         add_objects(alloc, output, texts, pass, heap.objects_of(pass))?;

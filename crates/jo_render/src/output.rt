@@ -1,6 +1,6 @@
 // The part of one script in the output: its lines, and the line of its outcome.
 ghost use Rattle.std.specs.Prelude.{◌≡◌, ◌++◌, ◌∷◌, [], true, OnOk, if◌then◌else◌};
-ghost use Rattle.jo_model.specs.Rendered.{headed, outcome_text, run_text};
+ghost use Rattle.jo_model.specs.Rendered.{headed, outcome_bytes, run_bytes};
 
 use jo_model::Outcome;
 use std::alloc::{AllocError, Global};
@@ -16,11 +16,11 @@ pub fn add_run(
     outcome: Outcome,
 ) -> Result<(), AllocError>
     ensures { OnOk result (output.new.items
-        ≡ output.old.items ++ run_text pass lines.now (outcome_text outcome)) }
+        ≡ output.old.items ++ run_bytes pass lines.now (outcome_bytes outcome)) }
 {
     let head = format!(in alloc; "{pass}| ")?;
     add_headed(output, head.as_bytes(), lines)?;
-    let last = format!(in alloc; "{pass}= {}\n", outcome_text(outcome))?;
+    let last = format!(in alloc; "{pass}= {}\n", outcome_bytes(outcome))?;
     output.extend_from_slice(last.as_bytes())?;
     Ok(())
 }
@@ -50,8 +50,8 @@ fn add_byte(output: &mut Vec<u8>, head: &[u8], begins: bool, byte: u8) -> Result
 }
 
 // The word for an outcome.
-fn outcome_text(outcome: Outcome) -> &'static str
-    ensures { result.now ≡ outcome_text outcome }
+fn outcome_bytes(outcome: Outcome) -> &'static str
+    ensures { result.now ≡ outcome_bytes outcome }
 {
     match outcome {
         Outcome::Done => "done",

@@ -1,7 +1,7 @@
 // The properties of an object: its indexes in rising order, and then its names in order of creation.
 ghost use Rattle.std.specs.Prelude.{◌≡◌, ◌++◌, OnOk, codes, drop, map};
-ghost use Rattle.jo_model.specs.Rendered.{property_value_text, element_text, name_text};
-ghost use Rattle.jo_render.specs.inner.Fragments.{each_after, properties_text};
+ghost use Rattle.jo_model.specs.Rendered.{property_value_bytes, element_bytes, name_bytes};
+ghost use Rattle.jo_render.specs.inner.Fragments.{each_after, properties_bytes};
 
 use crate::quoted::add_quoted;
 use crate::value::add_value;
@@ -20,7 +20,7 @@ pub fn add_properties(
     object: &PlainObject,
 ) -> Result<(), AllocError>
     ensures { OnOk result (output.new.items
-        ≡ output.old.items ++ properties_text texts.now object.now) }
+        ≡ output.old.items ++ properties_bytes texts.now object.now) }
 {
     let mut pairs = Vec::new(alloc);
     add_elements(alloc, &mut pairs, texts, object.elements())?;
@@ -44,7 +44,7 @@ fn add_elements(
     elements: &[(u16, Value)],
 ) -> Result<(), AllocError>
     ensures { OnOk result (output.new.items
-        ≡ output.old.items ++ each_after (codes ", ") (map (element_text texts.now) elements.now)) }
+        ≡ output.old.items ++ each_after (codes ", ") (map (element_bytes texts.now) elements.now)) }
 {
     for element in elements {
         output.extend_from_slice(BETWEEN)?;
@@ -60,7 +60,7 @@ fn add_element(
     texts: &Texts,
     element: &(u16, Value),
 ) -> Result<(), AllocError>
-    ensures { OnOk result (output.new.items ≡ output.old.items ++ element_text texts.now element.now) }
+    ensures { OnOk result (output.new.items ≡ output.old.items ++ element_bytes texts.now element.now) }
 {
     let head = format!(in alloc; "{}: ", element.0)?;
     output.extend_from_slice(head.as_bytes())?;
@@ -76,7 +76,7 @@ fn add_names(
     names: &[(NameId, Value)],
 ) -> Result<(), AllocError>
     ensures { OnOk result (output.new.items
-        ≡ output.old.items ++ each_after (codes ", ") (map (name_text texts.now) names.now)) }
+        ≡ output.old.items ++ each_after (codes ", ") (map (name_bytes texts.now) names.now)) }
 {
     for name in names {
         output.extend_from_slice(BETWEEN)?;
@@ -92,7 +92,7 @@ fn add_name(
     texts: &Texts,
     name: &(NameId, Value),
 ) -> Result<(), AllocError>
-    ensures { OnOk result (output.new.items ≡ output.old.items ++ name_text texts.now name.now) }
+    ensures { OnOk result (output.new.items ≡ output.old.items ++ name_bytes texts.now name.now) }
 {
     add_quoted(output, texts.bytes(TextId(name.0.0)))?;
     output.extend_from_slice(b": ")?;
@@ -107,7 +107,7 @@ fn add_property_value(
     texts: &Texts,
     value: Value,
 ) -> Result<(), AllocError>
-    ensures { OnOk result (output.new.items ≡ output.old.items ++ property_value_text texts.now value) }
+    ensures { OnOk result (output.new.items ≡ output.old.items ++ property_value_bytes texts.now value) }
 {
     match value {
         Value::Text(id) => add_quoted(output, texts.bytes(id)),

@@ -1,6 +1,6 @@
 // Values in a line. Each call puts them at the end of an output.
 ghost use Rattle.std.specs.Prelude.{◌≡◌, ◌++◌, OnOk, codes, map};
-ghost use Rattle.jo_model.specs.Printed.{object_text, value_text, line_of};
+ghost use Rattle.jo_model.specs.Printed.{object_bytes, value_bytes, line_of};
 ghost use Rattle.jo_render.specs.inner.Fragments.{each_after};
 
 use jo_value::{ObjId, Texts, Value};
@@ -15,7 +15,7 @@ pub fn add_value(
     texts: &Texts,
     value: Value,
 ) -> Result<(), AllocError>
-    ensures { OnOk result (output.new.items ≡ output.old.items ++ value_text texts.now value) }
+    ensures { OnOk result (output.new.items ≡ output.old.items ++ value_bytes texts.now value) }
 {
     match value {
         Value::Undefined => output.extend_from_slice(b"undefined"),
@@ -30,7 +30,7 @@ pub fn add_value(
 
 // Puts an object at the end, by its pass and serial.
 fn add_object_name(alloc: Global, output: &mut Vec<u8>, object: ObjId) -> Result<(), AllocError>
-    ensures { OnOk result (output.new.items ≡ output.old.items ++ object_text object) }
+    ensures { OnOk result (output.new.items ≡ output.old.items ++ object_bytes object) }
 {
     let name = format!(in alloc; "#{}.{}", object.pass, object.serial)?;
     output.extend_from_slice(name.as_bytes())?;
@@ -66,7 +66,7 @@ fn add_more(
     values: &[Value],
 ) -> Result<(), AllocError>
     ensures { OnOk result (output.new.items
-        ≡ output.old.items ++ each_after (codes " ") (map (value_text texts.now) values.now)) }
+        ≡ output.old.items ++ each_after (codes " ") (map (value_bytes texts.now) values.now)) }
 {
     for value in values {
         output.extend_from_slice(b" ")?;

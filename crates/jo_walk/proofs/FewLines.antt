@@ -14,7 +14,7 @@ use Rattle.jo_model.specs.declared.call.Outcome.{Outcome}
 use Rattle.jo_model.specs.declared.call.Outcome.TheVariants as outcome
 use Rattle.jo_model.specs.Objects.{Object, empty_object, name_place, has_property, is_full_for, with_value, with_property}
 use Rattle.jo_model.specs.Heaps.{Heap, heap_at_start}
-use Rattle.jo_model.specs.Printed.{value_text, line_of}
+use Rattle.jo_model.specs.Printed.{value_bytes, line_of}
 use Rattle.jo_form.specs.declared.form.Step.{Step}
 use Rattle.jo_form.specs.declared.form.Step.TheVariants as step
 use Rattle.jo_walk.specs.Small.{IsNumber, PutNumbers, count_of_printed, PrintSomething, AreSmall}
@@ -25,7 +25,7 @@ use Rattle.jo_walk.proofs.FewNames.{heap_with, made, from_call, few_names_end}
 
 -- a value with a text that is no longer than that of a number
 abbrev IsShort : Table → Value → Type 0
-IsShort texts v = length (value_text texts v) ≤ 17
+IsShort texts v = length (value_bytes texts v) ≤ 17
 
 -- the value of each property is one
 abbrev AreShort : Table → List (NameId × Value) → Type 0
@@ -57,12 +57,12 @@ short_get texts (p ∷ names) (suc i) all = short_get texts names i all.1
 
 -- values with a space before each
 values_fit : (texts : Table) (o : Object) (objects pass : List Object) (passes : Heap) (names : List NameId) → AreShort texts o.names →
-    length (flat_map (λ u. codes " " ++ u) (map (value_text texts) (values_in (heap_with o objects pass passes) names))) ≤ 18 * length names
+    length (flat_map (λ u. codes " " ++ u) (map (value_bytes texts) (values_in (heap_with o objects pass passes) names))) ≤ 18 * length names
 values_fit texts o objects pass passes [] all = omega arith
 values_fit texts o objects pass passes (name ∷ names) all =
     let heap : Heap = heap_with o objects pass passes in
-    let text = value_text texts (value_in heap name) in
-    let others = flat_map (λ u. codes " " ++ u) (map (value_text texts) (values_in heap names)) in
+    let text = value_bytes texts (value_in heap name) in
+    let others = flat_map (λ u. codes " " ++ u) (map (value_bytes texts) (values_in heap names)) in
     let short : length text ≤ 17 = short_get texts o.names (name_place o name) all in
     let rest : length others ≤ 18 * length names = values_fit texts o objects pass passes names all in
     omega (arith, short, rest, length-append text others)

@@ -25,7 +25,7 @@ use Rattle.jo_model.specs.declared.call.Outcome.TheVariants as outcome
 use Rattle.jo_model.specs.Objects.{Object, empty_object, name_place, has_property, is_full_for, with_value, with_property}
 use Rattle.jo_model.specs.Heaps.{Heap, heap_at_start}
 use Rattle.jo_model.specs.Printed.{line_of}
-use Rattle.jo_form.specs.Forms.{names_in, with_number, each_once, has_few_names}
+use Rattle.jo_form.specs.Forms.{names_of_step, with_id, each_once, has_few_names}
 use Rattle.jo_form.specs.declared.form.Step.{Step}
 use Rattle.jo_form.specs.declared.form.Step.TheVariants as step
 use Rattle.jo_walk.specs.inner.Walks.{Stage, values_in, after_call, after_line, after_steps, unless_ended}
@@ -49,15 +49,15 @@ added true numbers m n e same = let is = eqb-true n m same in ap (λ k. list_any
 added false numbers m n e same =
     list_any-append (eqb n) numbers (m ∷ []) ∙ or_right (list_any (eqb n) numbers) (list_any (eqb n) (m ∷ [])) (or_left (eqb n m) false same)
 
-stay_all : (names numbers : List ℕ) (n : ℕ) → IsAmong n numbers → IsAmong n (fold with_number numbers names)
+stay_all : (names numbers : List ℕ) (n : ℕ) → IsAmong n numbers → IsAmong n (fold with_id numbers names)
 stay_all [] numbers n h = h
-stay_all (m ∷ names) numbers n h = stay_all names (with_number numbers m) n (stays (list_any (eqb m) numbers) numbers m n h)
+stay_all (m ∷ names) numbers n h = stay_all names (with_id numbers m) n (stays (list_any (eqb m) numbers) numbers m n h)
 
-add_all : (names numbers : List ℕ) (n : ℕ) → IsAmong n names → IsAmong n (fold with_number numbers names)
+add_all : (names numbers : List ℕ) (n : ℕ) → IsAmong n names → IsAmong n (fold with_id numbers names)
 add_all [] numbers n h = absurd (true≢false (sym h))
 add_all (m ∷ names) numbers n h = elim (or_cases (eqb n m) (list_any (eqb n) names) h) [
-  | inl same ↦ stay_all names (with_number numbers m) n (added (list_any (eqb m) numbers) numbers m n refl same)
-  | inr after ↦ add_all names (with_number numbers m) n after
+  | inl same ↦ stay_all names (with_id numbers m) n (added (list_any (eqb m) numbers) numbers m n refl same)
+  | inr after ↦ add_all names (with_id numbers m) n after
 ]
 
 -- no id is lost where each is kept once
@@ -182,18 +182,18 @@ line_ends texts steps false heap lines longer goes s e =
     let P : Stage → Type 0 = λ s. EndsWell (unless_ended s.outcome s (after_steps texts steps s.heap s.lines)) in subst P (sym e) (inr refl)
 
 steps_end : (texts : Table) (known : List ℕ) (steps : List Step) (lines : List ℕ) (o : Object) (objects pass : List Object) (passes : Heap) →
-    length known ≤ MOST_NAMES → AreAmong (flat_map names_in steps) known → IsSmall known o →
+    length known ≤ MOST_NAMES → AreAmong (flat_map names_of_step steps) known → IsSmall known o →
     EndsWell (after_steps texts steps (heap_with o objects pass passes) lines)
 steps_end texts known [] lines o objects pass passes most among small = inl refl
 steps_end texts known (step.Put name i ∷ steps) lines o objects pass passes most among small =
-    let first = first_among (name.0 ∷ []) (flat_map names_in steps) known among name.0 (or_left (eqb name.0 name.0) false (nat_eq_equiv.refl name.0)) in
-    let others = others_among (name.0 ∷ []) (flat_map names_in steps) known among in
+    let first = first_among (name.0 ∷ []) (flat_map names_of_step steps) known among name.0 (or_left (eqb name.0 name.0) false (nat_eq_equiv.refl name.0)) in
+    let others = others_among (name.0 ∷ []) (flat_map names_of_step steps) known among in
     put_ends texts steps known (has_property o (Name name)) (is_full_for o (Name name)) o objects pass passes name (Int i) lines refl refl first most small
     (λ x s. steps_end texts known steps lines x objects pass passes most others s)
 steps_end texts known (step.Print names ∷ steps) lines o objects pass passes most among small =
     let heap : Heap = heap_with o objects pass passes in
     let line = line_of texts (values_in heap names) in
-    let others = others_among (map (λ name. name.0) names) (flat_map names_in steps) known among in
+    let others = others_among (map (λ name. name.0) names) (flat_map names_of_step steps) known among in
     line_ends texts steps (nat_le (length lines + length line + 1) MOST_LINE_BYTES) heap lines (lines ++ line ++ 10 ∷ [])
     (λ l. steps_end texts known steps l o objects pass passes most others small) (after_line heap lines line) refl
 
@@ -205,8 +205,8 @@ small_at_start known = record { distinct = tt; among = λ q h. absurd (true≢fa
 pub few_names_end : (texts : Table) (steps : List Step) (o : Outcome) → has_few_names steps ≡ true → (after_steps texts steps (heap_at_start 2) []).outcome ≡ Some o →
     (o ≡ outcome.Done) ⊎ (o ≡ outcome.OutputFull)
 few_names_end texts steps o few is =
-    let known = each_once (flat_map names_in steps) in
-    let well = steps_end texts known steps [] empty_object [] [] [] (leb-true (length known) MOST_NAMES few) (once (flat_map names_in steps)) (small_at_start known) in
+    let known = each_once (flat_map names_of_step steps) in
+    let well = steps_end texts known steps [] empty_object [] [] [] (leb-true (length known) MOST_NAMES few) (once (flat_map names_of_step steps)) (small_at_start known) in
     elim well [
       | inl done ↦ inl (cond_some true o outcome.Done (sym is ∙ done)).1
       | inr full ↦ inr (cond_some true o outcome.OutputFull (sym is ∙ full)).1

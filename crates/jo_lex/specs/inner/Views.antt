@@ -13,7 +13,7 @@ use Rattle.jo_lex.specs.declared.piece.Piece.{Piece}
 use Rattle.jo_lex.specs.declared.piece.Piece.TheVariants as found
 use Rattle.jo_lex.specs.Pieces as spec
 use Rattle.jo_lex.specs.Pieces.{is_escapable}
-use Rattle.jo_lex.specs.Punctuators.{Entry, table}
+use Rattle.jo_lex.specs.Punctuators.{Row, table}
 
 -- a lexeme of the code
 abbrev pub lexeme_of : Lexeme → spec.Lexeme
@@ -39,7 +39,7 @@ abbrev pub words_of : List (Bor (List ℕ)) → List (List ℕ)
 words_of words = map (λ word. word.now) words
 
 -- the rows of a table of the code
-abbrev pub entries_of : List (Bor (List ℕ) × Option Punct) → List Entry
+abbrev pub entries_of : List (Bor (List ℕ) × Option Punct) → List Row
 entries_of rows = map (λ row. (row.0.now, row.1)) rows
 
 -- each byte is below 128
@@ -47,7 +47,7 @@ abbrev pub is_ascii : List ℕ → Bool
 is_ascii bytes = list_all (λ b. nat_lt b 128) bytes
 
 -- the entries are ASCII and not empty, and none is longer than the one before it
-abbrev pub is_falling : ℕ → List Entry → Bool
+abbrev pub is_falling : ℕ → List Row → Bool
 is_falling n [] = true
 is_falling n (p ∷ ps) = is_ascii p.0 && nat_lt 0 (length p.0) && nat_le (length p.0) n && is_falling (length p.0) ps
 
@@ -57,17 +57,17 @@ may_begin c [] = true
 may_begin c (d ∷ ds) = d == c
 
 -- the entry among the others, after those that are longer
-abbrev pub put : Entry → List Entry → List Entry
+abbrev pub put : Row → List Row → List Row
 put p [] = p ∷ []
 put p (q ∷ qs) = if nat_lt (length p.0) (length q.0) then q ∷ put p qs else p ∷ q ∷ qs
 
 -- the entries, the longer ones first
-abbrev pub longer_first : List Entry → List Entry
+abbrev pub longer_first : List Row → List Row
 longer_first [] = []
 longer_first (p ∷ ps) = put p (longer_first ps)
 
 -- the punctuators that a script with this first character may begin with, the longer ones first
-unfoldable pub entries_for : ℕ → List Entry
+unfoldable pub entries_for : ℕ → List Row
 entries_for c = longer_first (filter (λ p. may_begin c p.0) table)
 
 -- what a character does in a text literal, after a backslash or not
