@@ -182,31 +182,37 @@ fn nested(
     format!(in alloc; "{front}{middle}{back}")
 }
 
+const BOUNDED: [(&str, &str, &str, usize, Outcome); 19] = [
+    ("%%\n", "", "", 7, Outcome::Accepted(8)),
+    (
+        "%%\n",
+        "",
+        "",
+        8,
+        Outcome::Refused(RefusalKind::TooManyScripts, 21),
+    ),
+    ("(", "", "", 64, Outcome::Refused(UNEXPECTED, 64)),
+    ("(", "", "", 65, Outcome::Refused(DEEP, 64)),
+    ("(", "1;", "", 64, Outcome::Refused(UNEXPECTED, 65)),
+    ("{", "", "}", 64, ACCEPTED),
+    ("{", "", "}", 65, Outcome::Refused(DEEP, 64)),
+    ("if(1)", ";", "", 63, ACCEPTED),
+    ("if(1)", "", "", 65, Outcome::Refused(DEEP, 317)),
+    ("if(1);else ", ";", "", 63, ACCEPTED),
+    ("while(1)", ";", "", 63, ACCEPTED),
+    ("while(1)", ";", "", 64, Outcome::Refused(DEEP, 509)),
+    ("for(;;)", ";", "", 63, ACCEPTED),
+    ("for(;;)", ";", "", 64, Outcome::Refused(DEEP, 444)),
+    ("x=", "1;", "", 64, Outcome::Refused(UNDECLARED, 0)),
+    ("x=", "1;", "", 65, Outcome::Refused(DEEP, 129)),
+    ("1?1:", "1;", "", 64, ACCEPTED),
+    ("!", "1;", "", 64, ACCEPTED),
+    ("!", "1;", "", 65, Outcome::Refused(DEEP, 64)),
+];
+
 #[test]
 fn scripts_and_constructs_are_bounded(rt: HostRuntime) -> Result<(), Fail> {
-    let many = RefusalKind::TooManyScripts;
-    let rows = [
-        ("%%\n", "", "", 7, Outcome::Accepted(8)),
-        ("%%\n", "", "", 8, Outcome::Refused(many, 21)),
-        ("(", "", "", 64, Outcome::Refused(UNEXPECTED, 64)),
-        ("(", "", "", 65, Outcome::Refused(DEEP, 64)),
-        ("(", "1;", "", 64, Outcome::Refused(UNEXPECTED, 65)),
-        ("{", "", "}", 64, ACCEPTED),
-        ("{", "", "}", 65, Outcome::Refused(DEEP, 64)),
-        ("if(1)", ";", "", 63, ACCEPTED),
-        ("if(1)", "", "", 65, Outcome::Refused(DEEP, 317)),
-        ("if(1);else ", ";", "", 63, ACCEPTED),
-        ("while(1)", ";", "", 63, ACCEPTED),
-        ("while(1)", ";", "", 64, Outcome::Refused(DEEP, 509)),
-        ("for(;;)", ";", "", 63, ACCEPTED),
-        ("for(;;)", ";", "", 64, Outcome::Refused(DEEP, 444)),
-        ("x=", "1;", "", 64, Outcome::Refused(UNDECLARED, 0)),
-        ("x=", "1;", "", 65, Outcome::Refused(DEEP, 129)),
-        ("1?1:", "1;", "", 64, ACCEPTED),
-        ("!", "1;", "", 64, ACCEPTED),
-        ("!", "1;", "", 65, Outcome::Refused(DEEP, 64)),
-    ];
-    for (front, middle, back, times, want) in rows {
+    for (front, middle, back, times, want) in BOUNDED {
         let set = nested(rt.alloc(), front, middle, back, times)?;
         assert!(rt; set.len() < 1000);
         assert_eq!(rt; answer(rt.alloc(), set.as_bytes()), want, "{set}");
@@ -215,7 +221,7 @@ fn scripts_and_constructs_are_bounded(rt: HostRuntime) -> Result<(), Fail> {
 }
 
 #[test]
-fn bytes_that_are_no_text_are_refused_first(rt: HostRuntime) {
+fn bytes_that_are_not_utf8_are_refused_first(rt: HostRuntime) {
     let rows: [(&[u8], u32); 2] = [
         (b"let a = \"\xff", 9),
         (b"%%\n%%\n%%\n%%\n%%\n%%\n%%\n%%\n\xff", 24),

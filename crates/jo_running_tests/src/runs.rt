@@ -37,23 +37,39 @@ struct Row<'a> {
     read: Option<usize>,
     write: Option<usize>,
     status: Status,
-    text: &'a [u8],
+    output: &'a [u8],
 }
 
 // A run of an input in which nothing fails.
-fn fine<'a>(input: &'a [u8], status: Status, text: &'a [u8]) -> Row<'a> {
+fn fine<'a>(input: &'a [u8], status: Status, output: &'a [u8]) -> Row<'a> {
     Row {
         words: RUN,
         input,
         read: None,
         write: None,
         status,
-        text,
+        output,
     }
 }
 
-fn refused<'a>(input: &'a [u8], line: &'a [u8]) -> Row<'a> {
-    fine(input, Status::Refused, line)
+fn words_of(alloc: Global, words: &[&str]) -> Result<Vec<String>, AllocError> {
+    let mut copies = Vec::new(alloc);
+    for word in words {
+        copies.push(word.to_string(alloc)?)?;
+    }
+    Ok(copies)
+}
+
+fn source_of(alloc: Global, row: Row<'_>) -> Result<MemorySource, AllocError> {
+    let read = row.read.unwrap_or(row.input.len().saturating_add(2));
+    let failing = vec![in alloc; read as u64]?;
+    Ok(MemorySource::new(row.input.to_vec(alloc)?, 1, failing))
+}
+
+fn sink_of(alloc: Global, row: Row<'_>) -> Result<MemorySink, AllocError> {
+    let write = row.write.unwrap_or(row.output.len().saturating_add(1));
+    let failing = vec![in alloc; write as u64]?;
+    Ok(MemorySink::new(Vec::new(alloc), 1, failing))
 }
 
 fn check<R: Abort + Threads + Wait + Sync>(
@@ -61,160 +77,246 @@ fn check<R: Abort + Threads + Wait + Sync>(
     alloc: Global,
     row: Row<'_>,
 ) -> Result<(), AllocError> {
-    let mut words = Vec::new(alloc);
-    for word in row.words {
-        words.push(word.to_string(alloc)?)?;
-    }
-    let read = row.read.unwrap_or(row.input.len().saturating_add(2));
-    let write = row.write.unwrap_or(row.text.len().saturating_add(1));
-    let mut source = MemorySource::new(row.input.to_vec(alloc)?, 1, vec![in alloc; read as u64]?);
-    let mut sink = MemorySink::new(Vec::new(alloc), 1, vec![in alloc; write as u64]?);
+    let words = words_of(alloc, row.words)?;
+    let mut source = source_of(alloc, row)?;
+    let mut sink = sink_of(alloc, row)?;
     assert_eq!(rt; run(rt, alloc, &words, &mut source, &mut sink), row.status);
-    assert_eq!(rt; sink.bytes(), row.text);
+    assert_eq!(rt; sink.bytes(), row.output);
+    Ok(())
+}
+
+// Inputs in whose runs nothing fails.
+const FINE: [(&[u8], Status, &[u8]); 21] = [
+    (SCRIPT, Status::Done, OUTPUT),
+    (
+        b"shared.a = \xff",
+        Status::Refused,
+        b"refused 1 NotUtf8 at 11\n",
+    ),
+    (
+        b"shared.x = 1.5;",
+        Status::Refused,
+        b"refused 2 BadToken at 11\n",
+    ),
+    (b"print(1;", Status::Refused, b"refused 3 Unexpected at 7\n"),
+    (
+        b"print(total);",
+        Status::Refused,
+        b"refused 4 Undeclared at 6\n",
+    ),
+    (
+        b"let a = 1; let a = 2;",
+        Status::Refused,
+        b"refused 5 Twice at 15\n",
+    ),
+    (
+        SEPARATORS,
+        Status::Refused,
+        b"refused 6 TooManyScripts at 21\n",
+    ),
+    (DEEP, Status::Refused, b"refused 7 NestedTooDeep at 64\n"),
+    (
+        b"shared.x = 9007199254740992;",
+        Status::Refused,
+        b"refused 8 NumberTooLarge at 11\n",
+    ),
+    (
+        b"// nothing",
+        Status::Refused,
+        b"refused 10 NoScript at 0\n",
+    ),
+    (b"let a = 1;", Status::Refused, NOT_BUILT),
+    (
+        b"/* names */ shared . \xc3\xa4=7 ;\n print (shared.\xc3\xa4, shared.in); // two",
+        Status::Done,
+        b"1| 7 undefined\n1= done\n#0.0 {\"\xc3\xa4\": 7}\n",
+    ),
+    (
+        b"print(shared.if, shared.class); shared.x = 1; shared.x = 2;",
+        Status::Done,
+        b"1| undefined undefined\n1= done\n#0.0 {\"x\": 2}\n",
+    ),
+    (b"shared.x += 1;", Status::Refused, NOT_BUILT),
+    (b"shared.x = (1);", Status::Refused, NOT_BUILT),
+    (b"shared.x.y = 1;", Status::Refused, NOT_BUILT),
+    (b"shared.x = 1; let a;", Status::Refused, NOT_BUILT),
+    (b"print();", Status::Refused, NOT_BUILT),
+    (b";", Status::Refused, NOT_BUILT),
+    (
+        b"shared.p = 1;\n%%\nshared.q = 2;",
+        Status::Refused,
+        NOT_BUILT,
+    ),
+    (b"%%\n", Status::Refused, NOT_BUILT),
+];
+
+#[test]
+fn each_input_has_its_answer(rt: HostRuntime) -> Result<(), Fail> {
+    for (input, status, output) in FINE {
+        check(&rt, rt.alloc(), fine(input, status, output))?;
+    }
+    Ok(())
+}
+
+// Other words than `run`, and faults.
+const OTHERS: [Row<'static>; 8] = [
+    Row {
+        words: &[],
+        input: SCRIPT,
+        read: Some(1),
+        write: None,
+        status: Status::Usage,
+        output: USAGE,
+    },
+    Row {
+        words: TURNS,
+        input: SCRIPT,
+        read: Some(1),
+        write: None,
+        status: Status::Usage,
+        output: USAGE,
+    },
+    Row {
+        words: CAPITAL,
+        input: SCRIPT,
+        read: Some(1),
+        write: Some(4),
+        status: Status::WriteFault,
+        output: b"usa",
+    },
+    Row {
+        words: RUN,
+        input: SCRIPT,
+        read: Some(2),
+        write: Some(1),
+        status: Status::ReadFault,
+        output: b"",
+    },
+    Row {
+        words: RUN,
+        input: SCRIPT,
+        read: Some(55),
+        write: None,
+        status: Status::ReadFault,
+        output: b"",
+    },
+    Row {
+        words: RUN,
+        input: SCRIPT,
+        read: None,
+        write: Some(1),
+        status: Status::WriteFault,
+        output: b"",
+    },
+    Row {
+        words: RUN,
+        input: SCRIPT,
+        read: None,
+        write: Some(3),
+        status: Status::WriteFault,
+        output: b"1|",
+    },
+    Row {
+        words: RUN,
+        input: b"let a = {};",
+        read: None,
+        write: Some(9),
+        status: Status::WriteFault,
+        output: b"refused ",
+    },
+];
+
+#[test]
+fn other_words_and_faults_have_their_answers(rt: HostRuntime) -> Result<(), Fail> {
+    for row in OTHERS {
+        check(&rt, rt.alloc(), row)?;
+    }
     Ok(())
 }
 
 // The part so many times.
-fn times(alloc: Global, text: &str, count: usize) -> Result<Vec<u8>, AllocError> {
-    text.repeat(alloc, count)?.as_bytes().to_vec(alloc)
-}
-
-// A print of so many different names.
-fn print_of(alloc: Global, count: u32) -> Result<Vec<u8>, AllocError> {
-    let mut script = String::from_str(alloc, "print(shared.x")?;
-    for number in 1..count {
-        script.push_str(format!(in alloc; ", shared.x{number}")?.as_str())?;
-    }
-    script.push_str(");")?;
-    script.as_bytes().to_vec(alloc)
+fn times(alloc: Global, part: &str, count: usize) -> Result<Vec<u8>, AllocError> {
+    part.repeat(alloc, count)?.as_bytes().to_vec(alloc)
 }
 
 // One text more than the table of texts has room for.
 fn too_many_texts(alloc: Global) -> Result<Vec<u8>, AllocError> {
     let mut script = Vec::new(alloc);
-    for number in 0..65_536 {
-        let line = format!(in alloc; "\"t{number}\";\n")?;
+    for serial in 0..65_536 {
+        let line = format!(in alloc; "\"t{serial}\";\n")?;
         script.extend_from_slice(line.as_bytes())?;
     }
     Ok(script)
 }
 
 #[test]
-fn each_answer_comes_with_its_text(rt: HostRuntime) -> Result<(), Fail> {
-    let alloc = rt.alloc();
-    let texts = too_many_texts(alloc)?;
-    let blanks = " ".repeat(alloc, 1_048_577)?;
-    let rows = [
-        fine(SCRIPT, Status::Done, OUTPUT),
-        refused(b"shared.a = \xff", b"refused 1 NotUtf8 at 11\n"),
-        refused(b"shared.x = 1.5;", b"refused 2 BadToken at 11\n"),
-        refused(b"print(1;", b"refused 3 Unexpected at 7\n"),
-        refused(b"print(total);", b"refused 4 Undeclared at 6\n"),
-        refused(b"let a = 1; let a = 2;", b"refused 5 Twice at 15\n"),
-        refused(SEPARATORS, b"refused 6 TooManyScripts at 21\n"),
-        refused(DEEP, b"refused 7 NestedTooDeep at 64\n"),
-        refused(
-            b"shared.x = 9007199254740992;",
-            b"refused 8 NumberTooLarge at 11\n",
-        ),
-        refused(&texts, b"refused 9 TooManyTexts at 644240\n"),
-        refused(b"// nothing", b"refused 10 NoScript at 0\n"),
-        refused(b"let a = 1;", NOT_BUILT),
-        Row {
-            read: Some(1_048_578),
-            ..fine(blanks.as_bytes(), Status::TooLarge, SIZE)
-        },
-        Row {
-            words: &[],
-            read: Some(1),
-            ..fine(SCRIPT, Status::Usage, USAGE)
-        },
-        Row {
-            words: TURNS,
-            read: Some(1),
-            ..fine(SCRIPT, Status::Usage, USAGE)
-        },
-        Row {
-            words: CAPITAL,
-            read: Some(1),
-            write: Some(4),
-            ..fine(SCRIPT, Status::WriteFault, b"usa")
-        },
-        Row {
-            read: Some(2),
-            write: Some(1),
-            ..fine(SCRIPT, Status::ReadFault, b"")
-        },
-        Row {
-            read: Some(55),
-            ..fine(SCRIPT, Status::ReadFault, b"")
-        },
-        Row {
-            write: Some(1),
-            ..fine(SCRIPT, Status::WriteFault, b"")
-        },
-        Row {
-            write: Some(3),
-            ..fine(SCRIPT, Status::WriteFault, b"1|")
-        },
-        Row {
-            write: Some(9),
-            ..fine(b"let a = {};", Status::WriteFault, b"refused ")
-        },
-    ];
-    for row in rows {
-        check(&rt, alloc, row)?;
-    }
+fn a_text_too_many_is_refused(rt: HostRuntime) -> Result<(), Fail> {
+    let input = too_many_texts(rt.alloc())?;
+    let line = b"refused 9 TooManyTexts at 644240\n";
+    check(&rt, rt.alloc(), fine(&input, Status::Refused, line))?;
     Ok(())
 }
 
 #[test]
-fn a_set_is_run_where_it_is_of_the_small_form(rt: HostRuntime) -> Result<(), Fail> {
-    let names = "/* names */ shared . ä=7 ;\n print (shared.ä, shared.in); // two";
-    let rows = [
-        fine(
-            names.as_bytes(),
-            Status::Done,
-            "1| 7 undefined\n1= done\n#0.0 {\"ä\": 7}\n".as_bytes(),
-        ),
-        fine(
-            b"print(shared.if, shared.class); shared.x = 1; shared.x = 2;",
-            Status::Done,
-            b"1| undefined undefined\n1= done\n#0.0 {\"x\": 2}\n",
-        ),
-        refused(b"shared.x += 1;", NOT_BUILT),
-        refused(b"shared.x = (1);", NOT_BUILT),
-        refused(b"shared.x.y = 1;", NOT_BUILT),
-        refused(b"shared.x = 1; let a;", NOT_BUILT),
-        refused(b"print();", NOT_BUILT),
-        refused(b";", NOT_BUILT),
-        refused(b"shared.p = 1;\n%%\nshared.q = 2;", NOT_BUILT),
-        refused(b"%%\n", NOT_BUILT),
-    ];
-    for row in rows {
-        check(&rt, rt.alloc(), row)?;
-    }
+fn the_largest_input_is_read(rt: HostRuntime) -> Result<(), Fail> {
+    let input = times(rt.alloc(), " ", 1_048_576)?;
+    let line = b"refused 10 NoScript at 0\n";
+    check(&rt, rt.alloc(), fine(&input, Status::Refused, line))?;
     Ok(())
 }
 
 #[test]
-fn limits_hold_on_both_sides(rt: HostRuntime) -> Result<(), Fail> {
-    let alloc = rt.alloc();
-    let largest = times(alloc, "shared.x = 123;\n", 256)?;
-    let larger = times(alloc, "shared.x = 123;\n", 257)?;
-    let blanks = times(alloc, " ", 1_048_576)?;
-    let more = " undefined".repeat(alloc, 63)?;
-    let line = format!(in alloc; "1| undefined{more}\n1= done\n#0.0 {{}}\n")?;
-    let (names, too_many) = (print_of(alloc, 64)?, print_of(alloc, 65)?);
-    let rows = [
-        fine(&largest, Status::Done, b"1= done\n#0.0 {\"x\": 123}\n"),
-        refused(&larger, NOT_BUILT),
-        refused(&blanks, b"refused 10 NoScript at 0\n"),
-        fine(&names, Status::Done, line.as_bytes()),
-        refused(&too_many, NOT_BUILT),
-    ];
-    for row in rows {
-        check(&rt, alloc, row)?;
+fn an_input_of_one_byte_more_is_too_large(rt: HostRuntime) -> Result<(), Fail> {
+    let input = times(rt.alloc(), " ", 1_048_577)?;
+    let row = Row {
+        read: Some(1_048_578),
+        ..fine(&input, Status::TooLarge, SIZE)
+    };
+    check(&rt, rt.alloc(), row)?;
+    Ok(())
+}
+
+#[test]
+fn a_script_of_4_096_bytes_is_run(rt: HostRuntime) -> Result<(), Fail> {
+    let input = times(rt.alloc(), "shared.x = 123;\n", 256)?;
+    let output = b"1= done\n#0.0 {\"x\": 123}\n";
+    check(&rt, rt.alloc(), fine(&input, Status::Done, output))?;
+    Ok(())
+}
+
+#[test]
+fn a_script_of_more_bytes_is_not_built(rt: HostRuntime) -> Result<(), Fail> {
+    let input = times(rt.alloc(), "shared.x = 123;\n", 257)?;
+    check(&rt, rt.alloc(), fine(&input, Status::Refused, NOT_BUILT))?;
+    Ok(())
+}
+
+// A print of so many different names.
+fn print_of(alloc: Global, count: u32) -> Result<Vec<u8>, AllocError> {
+    let mut script = String::from_str(alloc, "print(shared.x")?;
+    for name in 1..count {
+        script.push_str(format!(in alloc; ", shared.x{name}")?.as_str())?;
     }
+    script.push_str(");")?;
+    script.as_bytes().to_vec(alloc)
+}
+
+#[test]
+fn a_script_of_64_names_is_run(rt: HostRuntime) -> Result<(), Fail> {
+    let input = print_of(rt.alloc(), 64)?;
+    let more = " undefined".repeat(rt.alloc(), 63)?;
+    let output = format!(in rt.alloc(); "1| undefined{more}\n1= done\n#0.0 {{}}\n")?;
+    check(
+        &rt,
+        rt.alloc(),
+        fine(&input, Status::Done, output.as_bytes()),
+    )?;
+    Ok(())
+}
+
+#[test]
+fn a_script_of_65_names_is_not_built(rt: HostRuntime) -> Result<(), Fail> {
+    let input = print_of(rt.alloc(), 65)?;
+    check(&rt, rt.alloc(), fine(&input, Status::Refused, NOT_BUILT))?;
     Ok(())
 }
