@@ -59,7 +59,7 @@ def work_of(number):
         crate = words[words.index("--crate-name") + 1]
         if "/rt-edit-" in folder:
             return crate, "edits"
-        return crate.removesuffix("_tests") if "--test" in words else crate, "tests" if "--test" in words else "proof"
+        return crate, "tests" if "--test" in words else "proof"
     named = re.search(r"/crates/(\w+)", folder)
     return (named[1], "program") if named else None
 
