@@ -257,11 +257,29 @@ fn a_text_too_many_is_refused(rt: HostRuntime) -> Result<(), Fail> {
     Ok(())
 }
 
+// A part, how often it stands in the input, and what comes of that.
+const REPEATED: [(&str, usize, Status, &[u8]); 3] = [
+    (
+        " ",
+        1_048_576,
+        Status::Refused,
+        b"refused 10 NoScript at 0\n",
+    ),
+    (
+        "shared.x = 123;\n",
+        256,
+        Status::Done,
+        b"1= done\n#0.0 {\"x\": 123}\n",
+    ),
+    ("shared.x = 123;\n", 257, Status::Refused, NOT_BUILT),
+];
+
 #[test]
-fn the_largest_input_is_read(rt: HostRuntime) -> Result<(), Fail> {
-    let input = times(rt.alloc(), " ", 1_048_576)?;
-    let line = b"refused 10 NoScript at 0\n";
-    check(&rt, rt.alloc(), fine(&input, Status::Refused, line))?;
+fn limits_on_bytes_hold_on_both_sides(rt: HostRuntime) -> Result<(), Fail> {
+    for (part, count, status, output) in REPEATED {
+        let input = times(rt.alloc(), part, count)?;
+        check(&rt, rt.alloc(), fine(&input, status, output))?;
+    }
     Ok(())
 }
 
@@ -273,21 +291,6 @@ fn an_input_of_one_byte_more_is_too_large(rt: HostRuntime) -> Result<(), Fail> {
         ..fine(&input, Status::TooLarge, SIZE)
     };
     check(&rt, rt.alloc(), row)?;
-    Ok(())
-}
-
-#[test]
-fn a_script_of_4_096_bytes_is_run(rt: HostRuntime) -> Result<(), Fail> {
-    let input = times(rt.alloc(), "shared.x = 123;\n", 256)?;
-    let output = b"1= done\n#0.0 {\"x\": 123}\n";
-    check(&rt, rt.alloc(), fine(&input, Status::Done, output))?;
-    Ok(())
-}
-
-#[test]
-fn a_script_of_more_bytes_is_not_built(rt: HostRuntime) -> Result<(), Fail> {
-    let input = times(rt.alloc(), "shared.x = 123;\n", 257)?;
-    check(&rt, rt.alloc(), fine(&input, Status::Refused, NOT_BUILT))?;
     Ok(())
 }
 
