@@ -1,5 +1,5 @@
 -- The form of an accepted set is small: its numbers are in range, no print is of nothing, and it prints at most as many values as the set has bytes.
-use Rattle.std.proofs.Common.{◌≡◌, ℕ, suc, ◌+◌, ◌≤◌, ℤ, List, [], ◌∷◌, ◌++◌, true, Option, Some, None, refl, sym, ap, ◌∙◌, length, subst, arith, length-append}
+use Rattle.std.proofs.Common.{◌≡◌, ℕ, suc, ◌+◌, ◌≤◌, ℤ, List, [], ◌∷◌, ◌++◌, Option, Some, None, refl, sym, ap, ◌∙◌, length, subst, arith, length-append}
 use Rattle.std.specs.Prelude.{pos}
 use Rattle.std.proofs.lemmas.Option.{none-some}
 use Rattle.jo_value.specs.declared.limits.TheConstants.{MOST_INPUT, MOST_OPEN}
@@ -9,7 +9,7 @@ use Rattle.jo_lex.specs.declared.token.Token.{Token}
 use Rattle.jo_lex.specs.declared.punct.Punct.TheVariants as p
 use Rattle.jo_tree.specs.declared.operator.AssignOperator.TheVariants as assign_op
 use Rattle.jo_tree.specs.Trees.{Tree, number, assign, Statement, print, evaluate, Items, no_items, declare, perform}
-use Rattle.jo_grammar.specs.Expressions.{Mark, mark}
+use Rattle.jo_grammar.specs.Expressions.{Symbol, punct}
 use Rattle.jo_grammar.specs.Statements.{arguments, statement, items, IsScript}
 use Rattle.jo_grammar.specs.Refusals.{terms, IsAccepted}
 use Rattle.jo_grammar.specs.Terminals.{terminals_of}
@@ -41,27 +41,27 @@ number_small : (i : ℤ) → IsInRange i → IsNumber i
 number_small (pos n) h = h
 number_small _ h = absurd h
 
-put_small : (texts : Table) (most marks : ℕ) (name : Option NameId) (value : Tree) (of : Step) (steps : List Step) → Suits texts value → put_of name (number_in value) ≡ Some of →
-    AreBounded most steps → AreBounded (marks + most) (of ∷ steps)
-put_small texts most marks (Some name) (number i) of steps suits h k =
-    subst (λ x. AreBounded (marks + most) (x ∷ steps)) (inside (step.Put name i) of h) (record {
+put_small : (texts : Table) (most symbols : ℕ) (name : Option NameId) (value : Tree) (of : Step) (steps : List Step) → Suits texts value → put_of name (number_in value) ≡ Some of →
+    AreBounded most steps → AreBounded (symbols + most) (of ∷ steps)
+put_small texts most symbols (Some name) (number i) of steps suits h k =
+    subst (λ x. AreBounded (symbols + most) (x ∷ steps)) (inside (step.Put name i) of h) (record {
       numbers = (number_small i suits, k.numbers);
       something = k.something;
       printed = omega (arith, k.printed);
     })
-put_small texts most marks (Some name) _ of steps suits h k = absurd (none-some of h)
-put_small texts most marks None value of steps suits h k = absurd (none-some of h)
+put_small texts most symbols (Some name) _ of steps suits h k = absurd (none-some of h)
+put_small texts most symbols None value of steps suits h k = absurd (none-some of h)
 
-print_small : (most marks : ℕ) (found : Option (List NameId)) (of : Step) (steps : List Step) → ((names : List NameId) → found ≡ Some names → length names ≤ marks) → print_of found ≡ Some of →
-    AreBounded most steps → AreBounded (marks + most) (of ∷ steps)
-print_small most marks (Some (name ∷ names)) of steps few h k =
-    subst (λ x. AreBounded (marks + most) (x ∷ steps)) (inside (step.Print (name ∷ names)) of h) (record {
+print_small : (most symbols : ℕ) (found : Option (List NameId)) (of : Step) (steps : List Step) → ((names : List NameId) → found ≡ Some names → length names ≤ symbols) → print_of found ≡ Some of →
+    AreBounded most steps → AreBounded (symbols + most) (of ∷ steps)
+print_small most symbols (Some (name ∷ names)) of steps few h k =
+    subst (λ x. AreBounded (symbols + most) (x ∷ steps)) (inside (step.Print (name ∷ names)) of h) (record {
       numbers = k.numbers;
       something = (omega arith, k.something);
       printed = omega (arith, k.printed, few (name ∷ names) refl);
     })
-print_small most marks (Some []) of steps few h k = absurd (none-some of h)
-print_small most marks None of steps few h k = absurd (none-some of h)
+print_small most symbols (Some []) of steps few h k = absurd (none-some of h)
+print_small most symbols None of steps few h k = absurd (none-some of h)
 
 -- as many names as expressions
 names_many : (texts : Table) (es : List Tree) (names : List NameId) → shared_names texts es ≡ Some names → length names ≡ length es
@@ -70,11 +70,11 @@ names_many texts (e ∷ es) names h =
     let f = front (shared_name texts e) (shared_names texts es) names h in
     sym (ap length f.joined) ∙ ap suc (names_many texts es f.others f.are_others)
 
--- at most as many expressions as marks
+-- at most as many expressions as symbols
 print_few : (d : ℕ) (es : List Tree) → length es ≤ length (statement d (print es))
 print_few d es =
     let given = arguments (d + 1) es in
-    omega (arith, arguments_few (d + 1) es, length-append given (mark p.CloseParen ∷ []), length-append (given ++ mark p.CloseParen ∷ []) (mark p.Semicolon ∷ []))
+    omega (arith, arguments_few (d + 1) es, length-append given (punct p.CloseParen ∷ []), length-append (given ++ punct p.CloseParen ∷ []) (punct p.Semicolon ∷ []))
 
 step_small : (texts : Table) (d most : ℕ) (s : Statement) (of : Step) (steps : List Step) → SuitsStatement texts s → step_of texts s ≡ Some of →
     AreBounded most steps → AreBounded (length (statement d s) + most) (of ∷ steps)
@@ -95,23 +95,23 @@ steps_small texts d (perform s rest) steps suits h =
     subst (AreBounded (length (items d (perform s rest)))) f.joined
     (subst (λ n. AreBounded n (f.first ∷ f.others)) (sym (length-append (statement d s) (items d rest))) k)
 
--- ---- marks
+-- ---- symbols
 
-terms_many : (ms : List Mark) → length (terms ms) ≡ length ms
+terms_many : (ms : List Symbol) → length (terms ms) ≡ length ms
 terms_many [] = refl
 terms_many (m ∷ ms) = ap suc (terms_many ms)
 
--- at most as many marks as tokens before the end
-marks_few : (texts : Table) (most : ℕ) (tokens : List Token) (script : Items) → IsGoodList texts most tokens → IsAccepted IsScript MOST_OPEN (terminals_of texts tokens) script → length (items 0 script) ≤ most
-marks_few texts most tokens script h k =
+-- at most as many symbols as tokens before the end
+symbols_few : (texts : Table) (most : ℕ) (tokens : List Token) (script : Items) → IsGoodList texts most tokens → IsAccepted IsScript MOST_OPEN (terminals_of texts tokens) script → length (items 0 script) ≤ most
+symbols_few texts most tokens script h k =
     let spelling : terms (items 0 script) ≡ terminals_of texts tokens = ap terms (sym k.1.1) ∙ k.2 in
     omega (arith, h.few, terms_many (items 0 script), ap length spelling, ap (λ ts. length (terminals_of texts ts)) h.tokens_are, terminals-few texts h.before h.place)
 
 first_few : (texts : Table) (most : ℕ) (lists : List (List Token)) (script : Items) → AreGoodLists texts most lists → AreScripts texts lists (script ∷ []) → length (items 0 script) ≤ most
 first_few texts most [] script h k = absurd k
-first_few texts most (tokens ∷ lists) script h k = marks_few texts most tokens script h.0 k.0
+first_few texts most (tokens ∷ lists) script h k = symbols_few texts most tokens script h.0 k.0
 
--- at most as many marks as bytes
+-- at most as many symbols as bytes
 set_few : (bytes : List ℕ) (texts : Table) (script : Items) → IsAcceptedSet bytes (script ∷ []) texts → length (items 0 script) ≤ length bytes
 set_few bytes texts script set =
     let l = set.parsed.lexed in

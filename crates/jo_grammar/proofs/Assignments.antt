@@ -5,11 +5,11 @@ use Rattle.jo_tree.specs.declared.operator.AssignOperator.{AssignOperator}
 use Rattle.jo_grammar.specs.declared.terminal.Terminal.{Terminal}
 use Rattle.jo_tree.specs.Trees.{Tree, number, literal, constant, variable, group, object, cas, member, unary, delete, chain, choose, assign}
 use Rattle.jo_grammar.specs.Operators.{assign_token}
-use Rattle.jo_grammar.specs.Expressions.{Mark, IsTarget, Fits, spelling}
+use Rattle.jo_grammar.specs.Expressions.{Symbol, IsTarget, MayStand, spelling}
 use Rattle.jo_grammar.specs.Refusals.{Language, terms}
 use Rattle.jo_grammar.specs.inner.Read.{and_then, open_at, peek, next, rank, assign_of, Below, condition, is_target, assignment}
 use Rattle.jo_grammar.proofs.Outcome.{Outcome, bind, outcome-bind, outcome-choose, Any, nothing, outcome-pure, one, outcome-same, mapped, outcome-if, join, first-of, opened-after}
-use Rattle.jo_grammar.proofs.Levels.{at, Above, ReadsAt, some_tree, nil-right, rank-cons, links-level, Fits-lower, outcome-inner}
+use Rattle.jo_grammar.proofs.Levels.{at, Above, ReadsAt, some_tree, nil-right, rank-cons, links-level, MayStand-lower, outcome-inner}
 use Rattle.jo_grammar.proofs.Tokens.{assign-token-of, assign-of-token, rank-of-assign}
 use Rattle.jo_grammar.proofs.Conditions.{AboveCondition, outcome-condition}
 
@@ -27,7 +27,7 @@ assignment_parts ins d = bind (at ins 2 d) (λ a. assignment_rest ins d a)
 
 -- ---- targets
 
-target-fits : (ins : Bool) (a : Tree) → IsTarget a → Fits ins 2 a → Fits ins 10 a
+target-fits : (ins : Bool) (a : Tree) → IsTarget a → MayStand ins 2 a → MayStand ins 10 a
 target-fits ins (variable x) k f = tt
 target-fits ins (member e xs) k f = (omega arith, f.1, f.2)
 target-fits ins (number i) k f = tt
@@ -51,16 +51,16 @@ and-parts false b e = cc
 
 -- ---- an assignment in parts
 
-assignment-to : (ins : Bool) (d : ℕ) (v : Tree) (m : List Mark) → assignment_parts ins d v m → at ins 1 d v m
+assignment-to : (ins : Bool) (d : ℕ) (v : Tree) (m : List Symbol) → assignment_parts ins d v m → at ins 1 d v m
 assignment-to ins d v m (a, x, y, h, inl (o, target, (u, x1, y1, l1, (b, h2, same), e1)), e) =
-    (subst (λ z. Fits ins 1 z) (sym same) (omega arith, target, target-fits ins a target h.0, h2.0), e ∙ join h.1 (e1 ∙ join l1 h2.1) ∙ ap (λ z. spelling d z) (sym same))
+    (subst (λ z. MayStand ins 1 z) (sym same) (omega arith, target, target-fits ins a target h.0, h2.0), e ∙ join h.1 (e1 ∙ join l1 h2.1) ∙ ap (λ z. spelling d z) (sym same))
 assignment-to ins d v m (a, x, y, h, inr k, e) =
-    (subst (λ z. Fits ins 1 z) (sym k.0) (Fits-lower ins 1 2 a (omega arith) h.0), e ∙ join h.1 k.1 ∙ nil-right (spelling d a) ∙ ap (λ z. spelling d z) (sym k.0))
+    (subst (λ z. MayStand ins 1 z) (sym k.0) (MayStand-lower ins 1 2 a (omega arith) h.0), e ∙ join h.1 k.1 ∙ nil-right (spelling d a) ∙ ap (λ z. spelling d z) (sym k.0))
 
-assignment-alone : (ins : Bool) (d : ℕ) (v : Tree) (m : List Mark) → at ins 2 d v m → assignment_parts ins d v m
+assignment-alone : (ins : Bool) (d : ℕ) (v : Tree) (m : List Symbol) → at ins 2 d v m → assignment_parts ins d v m
 assignment-alone ins d v m h = (v, m, [], h, inr (refl, refl), sym (nil-right m))
 
-assignment-from : (ins : Bool) (d : ℕ) (v : Tree) (m : List Mark) → at ins 1 d v m → assignment_parts ins d v m
+assignment-from : (ins : Bool) (d : ℕ) (v : Tree) (m : List Symbol) → at ins 1 d v m → assignment_parts ins d v m
 assignment-from ins d (number i) m h = assignment-alone ins d (number i) m h
 assignment-from ins d (literal s) m h = assignment-alone ins d (literal s) m h
 assignment-from ins d (constant w) m h = assignment-alone ins d (constant w) m h
@@ -77,14 +77,14 @@ assignment-from ins d (assign o a b) m h = (
   a,
   spelling d a,
   (assign_token o, d + 1) ∷ spelling (d + 1) b,
-  (Fits-lower ins 2 10 a (omega arith) h.0.2, refl),
+  (MayStand-lower ins 2 10 a (omega arith) h.0.2, refl),
   inl (o, h.0.1, (tt, (assign_token o, d + 1) ∷ [], spelling (d + 1) b, refl, (b, (h.0.3, refl), refl), refl)),
   h.1,
 )
 
--- ---- which tokens may follow
+-- ---- which terminals may follow
 
-assignment-follow : (ins : Bool) (d : ℕ) (a v : Tree) (m : List Mark) (r : List Terminal) → assignment_rest ins d a v m → rank ins (peek r) < 1 → AboveCondition ins a (peek (terms m ++ r))
+assignment-follow : (ins : Bool) (d : ℕ) (a v : Tree) (m : List Symbol) (r : List Terminal) → assignment_rest ins d a v m → rank ins (peek r) < 1 → AboveCondition ins a (peek (terms m ++ r))
 assignment-follow ins d a v m r (inl (o, target, k)) s =
     let f : rank ins (peek (terms m ++ r)) ≡ 1 = ap (rank ins) (first-of (assign_token o) (d + 1) (mapped (assign o a) (at ins 1 (d + 1))) v m r k) ∙ rank-of-assign ins o in
     (omega arith, λ _. target)
@@ -92,11 +92,11 @@ assignment-follow ins d a v m r (inr k) s =
     let f : rank ins (peek (terms m ++ r)) ≡ rank ins (peek r) = ap (λ z. rank ins (peek (terms z ++ r))) k.1 in
     (omega arith, λ h. absurd (omega arith))
 
--- an assignment by the token that stands here is one
-here-to : (ins : Bool) (d : ℕ) (a : Tree) (c : Terminal) → IsTarget a → rank ins c ≡ 1 → (v : Tree) (m : List Mark) → an_assignment ins d a (assign_of c) c v m → assignment_rest ins d a v m
+-- an assignment by the terminal that stands here is one
+here-to : (ins : Bool) (d : ℕ) (a : Tree) (c : Terminal) → IsTarget a → rank ins c ≡ 1 → (v : Tree) (m : List Symbol) → an_assignment ins d a (assign_of c) c v m → assignment_rest ins d a v m
 here-to ins d a c target one v m k = inl (assign_of c, target, subst (λ z. an_assignment ins d a (assign_of c) z v m) (sym (assign-token-of ins c one)) k)
 
-here-from : (ins : Bool) (d : ℕ) (a : Tree) (c : Terminal) → rank ins c ≡ 1 → (v : Tree) (m : List Mark) (r : List Terminal) → assignment_rest ins d a v m → rank ins (peek r) < 1 → peek (terms m ++ r) ≡ c
+here-from : (ins : Bool) (d : ℕ) (a : Tree) (c : Terminal) → rank ins c ≡ 1 → (v : Tree) (m : List Symbol) (r : List Terminal) → assignment_rest ins d a v m → rank ins (peek r) < 1 → peek (terms m ++ r) ≡ c
     → an_assignment ins d a (assign_of c) c v m
 here-from ins d a c one v m r (inl (o, target, k)) s e =
     let same : assign_token o ≡ c = sym (first-of (assign_token o) (d + 1) (mapped (assign o a) (at ins 1 (d + 1))) v m r k) ∙ e in
@@ -106,7 +106,7 @@ here-from ins d a c one v m r (inr k) s e =
     absurd (omega arith)
 
 -- where no assignment is read there is none
-here-none : (ins : Bool) (d : ℕ) (a : Tree) (c : Terminal) → (is_target a && eqb (rank ins c) 1) ≡ false → (v : Tree) (m : List Mark) (r : List Terminal) → assignment_rest ins d a v m → peek (terms m ++ r) ≡ c → nothing a v m
+here-none : (ins : Bool) (d : ℕ) (a : Tree) (c : Terminal) → (is_target a && eqb (rank ins c) 1) ≡ false → (v : Tree) (m : List Symbol) (r : List Terminal) → assignment_rest ins d a v m → peek (terms m ++ r) ≡ c → nothing a v m
 here-none ins d a c away v m r (inl (o, target, k)) e =
     let same : assign_token o ≡ c = sym (first-of (assign_token o) (d + 1) (mapped (assign o a) (at ins 1 (d + 1))) v m r k) ∙ e in
     let q : eqb (rank ins c) 1 ≡ true = eq-eqb (rank ins c) 1 (ap (rank ins) (sym same) ∙ rank-of-assign ins o) in

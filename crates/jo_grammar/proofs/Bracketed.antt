@@ -9,36 +9,36 @@ use Rattle.jo_tree.specs.declared.word.PropKey.{PropKey}
 use Rattle.jo_tree.specs.declared.word.PropKey.TheVariants as q
 use Rattle.jo_tree.specs.Trees.{Tree, group, object, cas, Props, no_props, prop}
 use Rattle.jo_grammar.specs.Operators.{key_token}
-use Rattle.jo_grammar.specs.Expressions.{Mark, plain, mark, Fits, FitProps, FitMore, comma_at_end, spelling, props, more_props}
+use Rattle.jo_grammar.specs.Expressions.{Symbol, plain, punct, MayStand, FitProps, FitMore, comma_at_end, spelling, props, more_props}
 use Rattle.jo_grammar.specs.Refusals.{Language, terms}
 use Rattle.jo_grammar.specs.inner.Read.{Reader, and_then, peek, next, sees, expect, key, punct_rank, rank, with_prop, Below, ended, property, props_from, object_after, group_after, cas_after}
 use Rattle.jo_grammar.proofs.Outcome.{Outcome, bind, outcome-bind, Any, nothing, outcome-pure, one, outcome-fail, outcome-same, mapped, outcome-map, outcome-if, join, sees-cons, sees-false, first-of, some-after, outcome-sees, outcome-expect, IsKey, a_key, outcome-key, plain-after}
 use Rattle.jo_grammar.proofs.Levels.{at, Above, ReadsAt, some_tree, not-longer, closed_by, outcome-closed, outcome-inner}
 
--- ---- an expression and the token that ends it
+-- ---- an expression and the terminal that ends it
 
 abbrev pub an_ended : ℕ → Punct → Language Tree
-an_ended d c e m = Fits true 1 e × (m ≡ spelling d e ++ mark c ∷ [])
+an_ended d c e m = MayStand true 1 e × (m ≡ spelling d e ++ punct c ∷ [])
 
 abbrev ended_parts : ℕ → Punct → Language Tree
 ended_parts d c = closed_by true d (t.Punct c) (λ e. nothing e)
 
-ended-to : (d : ℕ) (c : Punct) (e : Tree) (m : List Mark) → ended_parts d c e m → an_ended d c e m
+ended-to : (d : ℕ) (c : Punct) (e : Tree) (m : List Symbol) → ended_parts d c e m → an_ended d c e m
 ended-to d c e m (f, x, y, k, (u, x', y', l, (same, empty), w'), w) =
-    (subst (λ v. Fits true 1 v) (sym same) k.0, w ∙ join (k.1 ∙ ap (λ v. spelling d v) (sym same)) (w' ∙ join l empty))
+    (subst (λ v. MayStand true 1 v) (sym same) k.0, w ∙ join (k.1 ∙ ap (λ v. spelling d v) (sym same)) (w' ∙ join l empty))
 
-ended-from : (d : ℕ) (c : Punct) (e : Tree) (m : List Mark) → an_ended d c e m → ended_parts d c e m
-ended-from d c e m k = (e, spelling d e, mark c ∷ [], (k.0, refl), (tt, mark c ∷ [], [], refl, (refl, refl), refl), k.1)
+ended-from : (d : ℕ) (c : Punct) (e : Tree) (m : List Symbol) → an_ended d c e m → ended_parts d c e m
+ended-from d c e m k = (e, spelling d e, punct c ∷ [], (k.0, refl), (tt, punct c ∷ [], [], refl, (refl, refl), refl), k.1)
 
-pub some_ended : (d : ℕ) (c : Punct) → (e : Tree) × (m : List Mark) × an_ended d c e m
-some_ended d c = let i = some_tree true 1 d in (i.0, spelling d i.0 ++ mark c ∷ [], (i.2.0, refl))
+pub some_ended : (d : ℕ) (c : Punct) → (e : Tree) × (m : List Symbol) × an_ended d c e m
+some_ended d c = let i = some_tree true 1 d in (i.0, spelling d i.0 ++ punct c ∷ [], (i.2.0, refl))
 
 -- ---- groups and the arguments of `cas`
 
 abbrev pub a_group : ℕ → Language Tree
 a_group d = mapped group (an_ended d p.CloseParen)
 
-pub some_group : (d : ℕ) → (v : Tree) × (m : List Mark) × a_group d v m
+pub some_group : (d : ℕ) → (v : Tree) × (m : List Symbol) × a_group d v m
 some_group d = let i = some_ended d p.CloseParen in (group i.0, i.1, (i.0, i.2, refl))
 
 abbrev pub cas_fourth : ℕ → Tree → Tree → Tree → Language Tree
@@ -53,16 +53,16 @@ cas_second d o = bind (an_ended d p.Comma) (cas_third d o)
 abbrev pub a_cas : ℕ → Language Tree
 a_cas d = bind (an_ended d p.Comma) (cas_second d)
 
-some_fourth : (d : ℕ) (o k x : Tree) → (v : Tree) × (m : List Mark) × cas_fourth d o k x v m
+some_fourth : (d : ℕ) (o k x : Tree) → (v : Tree) × (m : List Symbol) × cas_fourth d o k x v m
 some_fourth d o k x = let i = some_ended d p.CloseParen in (cas o k x i.0, i.1, (i.0, i.2, refl))
 
-some_third : (d : ℕ) (o k : Tree) → (v : Tree) × (m : List Mark) × cas_third d o k v m
+some_third : (d : ℕ) (o k : Tree) → (v : Tree) × (m : List Symbol) × cas_third d o k v m
 some_third d o k = let i = some_ended d p.Comma in let j = some_fourth d o k i.0 in (j.0, i.1 ++ j.1, (i.0, i.1, j.1, i.2, j.2, refl))
 
-some_second : (d : ℕ) (o : Tree) → (v : Tree) × (m : List Mark) × cas_second d o v m
+some_second : (d : ℕ) (o : Tree) → (v : Tree) × (m : List Symbol) × cas_second d o v m
 some_second d o = let i = some_ended d p.Comma in let j = some_third d o i.0 in (j.0, i.1 ++ j.1, (i.0, i.1, j.1, i.2, j.2, refl))
 
-pub some_cas : (d : ℕ) → (v : Tree) × (m : List Mark) × a_cas d v m
+pub some_cas : (d : ℕ) → (v : Tree) × (m : List Symbol) × a_cas d v m
 some_cas d = let i = some_ended d p.Comma in let j = some_second d i.0 in (j.0, i.1 ++ j.1, (i.0, i.1, j.1, i.2, j.2, refl))
 
 -- ---- properties
@@ -88,7 +88,7 @@ key-apart (q.Text s) c h = cc
 key-apart (q.Number i) c h = cc
 
 abbrev pub a_property : ℕ → Language (PropKey × Tree)
-a_property d x m = IsKey x.0 × Fits true 1 x.1 × (m ≡ plain (key_token x.0) ∷ (mark p.Colon ∷ spelling d x.1))
+a_property d x m = IsKey x.0 × MayStand true 1 x.1 × (m ≡ plain (key_token x.0) ∷ (punct p.Colon ∷ spelling d x.1))
 
 abbrev property_value : ℕ → PropKey → Language (PropKey × Tree)
 property_value d k = mapped (λ e. (k, e)) (at true 1 d)
@@ -96,26 +96,26 @@ property_value d k = mapped (λ e. (k, e)) (at true 1 d)
 property_parts : ℕ → Language (PropKey × Tree)
 property_parts d = bind a_key (λ k. bind (one (t.Punct p.Colon) 0) (λ _. property_value d k))
 
-property-to : (d : ℕ) (v : PropKey × Tree) (m : List Mark) → property_parts d v m → a_property d v m
+property-to : (d : ℕ) (v : PropKey × Tree) (m : List Symbol) → property_parts d v m → a_property d v m
 unfolding property_parts
 property-to d v m (k, x, y, l, (u, x', y', l', (e, a, same), f'), f) = (
   subst (λ z. IsKey z.0) (sym same) l.0,
-  subst (λ z. Fits true 1 z.1) (sym same) a.0,
-  f ∙ join l.1 (f' ∙ join l' a.1) ∙ ap (λ z. plain (key_token z.0) ∷ (mark p.Colon ∷ spelling d z.1)) (sym same),
+  subst (λ z. MayStand true 1 z.1) (sym same) a.0,
+  f ∙ join l.1 (f' ∙ join l' a.1) ∙ ap (λ z. plain (key_token z.0) ∷ (punct p.Colon ∷ spelling d z.1)) (sym same),
 )
 
-property-from : (d : ℕ) (v : PropKey × Tree) (m : List Mark) → a_property d v m → property_parts d v m
+property-from : (d : ℕ) (v : PropKey × Tree) (m : List Symbol) → a_property d v m → property_parts d v m
 unfolding property_parts
-property-from d v m k = (v.0, plain (key_token v.0) ∷ [], mark p.Colon ∷ spelling d v.1, (k.0, refl), (tt, mark p.Colon ∷ [], spelling d v.1, refl, (v.1, (k.1, refl), refl), refl), k.2)
+property-from d v m k = (v.0, plain (key_token v.0) ∷ [], punct p.Colon ∷ spelling d v.1, (k.0, refl), (tt, punct p.Colon ∷ [], spelling d v.1, refl, (v.1, (k.1, refl), refl), refl), k.2)
 
-some_value : (d : ℕ) (k : PropKey) → (v : PropKey × Tree) × (m : List Mark) × property_value d k v m
+some_value : (d : ℕ) (k : PropKey) → (v : PropKey × Tree) × (m : List Symbol) × property_value d k v m
 some_value d k = let e = some_tree true 1 d in ((k, e.0), e.1, (e.0, e.2, refl))
 
 -- ---- the rest of an object
 
 -- whose properties so far were read
 abbrev pub an_end : ℕ → Props → Language Tree
-an_end d found v m = (more : Props) × (comma : Bool) × FitMore more × (v ≡ object (both found more) comma) × (m ≡ more_props d more ++ (comma_at_end comma ++ mark p.CloseBrace ∷ []))
+an_end d found v m = (more : Props) × (comma : Bool) × FitMore more × (v ≡ object (both found more) comma) × (m ≡ more_props d more ++ (comma_at_end comma ++ punct p.CloseBrace ∷ []))
 
 abbrev pub a_close : Props → Bool → Language Tree
 a_close found comma = bind (one (t.Punct p.CloseBrace) 0) (λ _. nothing (object found comma))
@@ -131,98 +131,98 @@ abbrev a_comma : ℕ → Props → Language Tree
 a_comma d found = bind (one (t.Punct p.Comma) 0) (λ _. after_comma d found)
 
 abbrev pub an_object : ℕ → Language Tree
-an_object d v m = (ps : Props) × (comma : Bool) × FitProps ps comma × (v ≡ object ps comma) × (m ≡ props d ps ++ (comma_at_end comma ++ mark p.CloseBrace ∷ []))
+an_object d v m = (ps : Props) × (comma : Bool) × FitProps ps comma × (v ≡ object ps comma) × (m ≡ props d ps ++ (comma_at_end comma ++ punct p.CloseBrace ∷ []))
 
 abbrev first_property : ℕ → Language Tree
 first_property d = bind (a_property d) (λ x. an_end d (prop x.0 x.1 no_props))
 
-close-end : (d : ℕ) (found : Props) (v : Tree) (m : List Mark) → a_close found false v m → an_end d found v m
+close-end : (d : ℕ) (found : Props) (v : Tree) (m : List Symbol) → a_close found false v m → an_end d found v m
 close-end d found v m k = (no_props, false, tt, k.4.0 ∙ ap (λ v. object v false) (sym (both-none found)), k.5 ∙ join k.3 k.4.1)
 
-comma-end : (d : ℕ) (found : Props) (v : Tree) (m : List Mark) → a_comma d found v m → an_end d found v m
+comma-end : (d : ℕ) (found : Props) (v : Tree) (m : List Symbol) → a_comma d found v m → an_end d found v m
 comma-end d found v m (u, x, y, l, inl k, e) = (no_props, true, tt, k.4.0 ∙ ap (λ v. object v true) (sym (both-none found)), e ∙ join l (k.5 ∙ join k.3 k.4.1))
 comma-end d found v m (u, x, y, l, inr (i, x', y', j, (more, comma, fit, same, w), e'), e) = (
   prop i.0 i.1 more,
   comma,
   (j.0, j.1, fit),
   same ∙ ap (λ v. object v comma) (both-with found more i.0 i.1),
-  e ∙ join l (e' ∙ join j.2 w ∙ ap (λ v. plain (key_token i.0) ∷ (mark p.Colon ∷ v)) (sym (append_assoc (spelling d i.1) (more_props d more) (comma_at_end comma ++ mark p.CloseBrace ∷ [])))),
+  e ∙ join l (e' ∙ join j.2 w ∙ ap (λ v. plain (key_token i.0) ∷ (punct p.Colon ∷ v)) (sym (append_assoc (spelling d i.1) (more_props d more) (comma_at_end comma ++ punct p.CloseBrace ∷ [])))),
 )
 
-end-split : (d : ℕ) (found : Props) (v : Tree) (m : List Mark) (r : List Terminal) → an_end d found v m
+end-split : (d : ℕ) (found : Props) (v : Tree) (m : List Symbol) (r : List Terminal) → an_end d found v m
     → ((peek (terms m ++ r) ≡ t.Punct p.CloseBrace) × a_close found false v m) ⊎ ((peek (terms m ++ r) ≡ t.Punct p.Comma) × a_comma d found v m)
-end-split d found v m r (no_props, false, f, g, e) = inl (ap (λ v. peek (terms v ++ r)) e, (tt, mark p.CloseBrace ∷ [], [], refl, (g ∙ ap (λ v. object v false) (both-none found), refl), e))
+end-split d found v m r (no_props, false, f, g, e) = inl (ap (λ v. peek (terms v ++ r)) e, (tt, punct p.CloseBrace ∷ [], [], refl, (g ∙ ap (λ v. object v false) (both-none found), refl), e))
 end-split d found v m r (no_props, true, f, g, e) =
-    inr (ap (λ v. peek (terms v ++ r)) e, (tt, mark p.Comma ∷ [], mark p.CloseBrace ∷ [], refl, inl (tt, mark p.CloseBrace ∷ [], [], refl, (g ∙ ap (λ v. object v true) (both-none found), refl), refl), e))
+    inr (ap (λ v. peek (terms v ++ r)) e, (tt, punct p.Comma ∷ [], punct p.CloseBrace ∷ [], refl, inl (tt, punct p.CloseBrace ∷ [], [], refl, (g ∙ ap (λ v. object v true) (both-none found), refl), refl), e))
 end-split d found v m r (prop k w more, comma, f, g, e) =
-    let end = comma_at_end comma ++ mark p.CloseBrace ∷ [] in
+    let end = comma_at_end comma ++ punct p.CloseBrace ∷ [] in
     inr (
       ap (λ v. peek (terms v ++ r)) e,
       (
         tt,
-        mark p.Comma ∷ [],
-        plain (key_token k) ∷ (mark p.Colon ∷ ((spelling d w ++ more_props d more) ++ end)),
+        punct p.Comma ∷ [],
+        plain (key_token k) ∷ (punct p.Colon ∷ ((spelling d w ++ more_props d more) ++ end)),
         refl,
         inr (
           (k, w),
-          plain (key_token k) ∷ (mark p.Colon ∷ spelling d w),
+          plain (key_token k) ∷ (punct p.Colon ∷ spelling d w),
           more_props d more ++ end,
           (f.0, f.1, refl),
           (more, comma, f.2, g ∙ ap (λ v. object v comma) (sym (both-with found more k w)), refl),
-          ap (λ v. plain (key_token k) ∷ (mark p.Colon ∷ v)) (append_assoc (spelling d w) (more_props d more) end),
+          ap (λ v. plain (key_token k) ∷ (punct p.Colon ∷ v)) (append_assoc (spelling d w) (more_props d more) end),
         ),
         e,
       ),
     )
 
-end-flat : (d : ℕ) (found : Props) (v : Tree) (m : List Mark) (r : List Terminal) → an_end d found v m → rank true (peek (terms m ++ r)) ≡ 0
+end-flat : (d : ℕ) (found : Props) (v : Tree) (m : List Symbol) (r : List Terminal) → an_end d found v m → rank true (peek (terms m ++ r)) ≡ 0
 end-flat d found v m r k = elim (end-split d found v m r k) [ inl h ↦ ap (λ c. rank true c) h.0 | inr h ↦ ap (λ c. rank true c) h.0 ]
 
-after-split : (d : ℕ) (found : Props) (v : Tree) (m : List Mark) (r : List Terminal) → after_comma d found v m
+after-split : (d : ℕ) (found : Props) (v : Tree) (m : List Symbol) (r : List Terminal) → after_comma d found v m
     → ((peek (terms m ++ r) ≡ t.Punct p.CloseBrace) × a_close found true v m) ⊎ ((peek (terms m ++ r) ≡ t.Punct p.CloseBrace → ⊥) × next_property d found v m)
 after-split d found v m r (inl k) = inl (first-of (t.Punct p.CloseBrace) 0 (nothing (object found true)) v m r k, k)
 after-split d found v m r (inr (i, x, y, j, k, e)) = inr (λ h. key-apart i.0 p.CloseBrace (sym (ap (λ v. peek (terms v ++ r)) (e ∙ join j.2 refl)) ∙ h), (i, x, y, j, k, e))
 
-object-split : (d : ℕ) (v : Tree) (m : List Mark) (r : List Terminal) → an_object d v m
+object-split : (d : ℕ) (v : Tree) (m : List Symbol) (r : List Terminal) → an_object d v m
     → ((peek (terms m ++ r) ≡ t.Punct p.CloseBrace) × a_close no_props false v m) ⊎ ((peek (terms m ++ r) ≡ t.Punct p.CloseBrace → ⊥) × first_property d v m)
 object-split d v m r (no_props, true, f, g, e) = cc
-object-split d v m r (no_props, false, f, g, e) = inl (ap (λ v. peek (terms v ++ r)) e, (tt, mark p.CloseBrace ∷ [], [], refl, (g, refl), e))
+object-split d v m r (no_props, false, f, g, e) = inl (ap (λ v. peek (terms v ++ r)) e, (tt, punct p.CloseBrace ∷ [], [], refl, (g, refl), e))
 object-split d v m r (prop k w more, comma, f, g, e) =
-    let end = comma_at_end comma ++ mark p.CloseBrace ∷ [] in
+    let end = comma_at_end comma ++ punct p.CloseBrace ∷ [] in
     inr (
       λ h. key-apart k p.CloseBrace (sym (ap (λ v. peek (terms v ++ r)) e) ∙ h),
       (
         (k, w),
-        plain (key_token k) ∷ (mark p.Colon ∷ spelling d w),
+        plain (key_token k) ∷ (punct p.Colon ∷ spelling d w),
         more_props d more ++ end,
         (f.0, f.1, refl),
         (more, comma, f.2, g, refl),
-        e ∙ ap (λ v. plain (key_token k) ∷ (mark p.Colon ∷ v)) (append_assoc (spelling d w) (more_props d more) end),
+        e ∙ ap (λ v. plain (key_token k) ∷ (punct p.Colon ∷ v)) (append_assoc (spelling d w) (more_props d more) end),
       ),
     )
 
-close-object : (d : ℕ) (v : Tree) (m : List Mark) → a_close no_props false v m → an_object d v m
+close-object : (d : ℕ) (v : Tree) (m : List Symbol) → a_close no_props false v m → an_object d v m
 close-object d v m k = (no_props, false, refl, k.4.0, k.5 ∙ join k.3 k.4.1)
 
-props-object : (d : ℕ) (v : Tree) (m : List Mark) → first_property d v m → an_object d v m
+props-object : (d : ℕ) (v : Tree) (m : List Symbol) → first_property d v m → an_object d v m
 props-object d v m (i, x, y, j, (more, comma, fit, same, w), e) = (
   prop i.0 i.1 more,
   comma,
   (j.0, j.1, fit),
   same,
-  e ∙ join j.2 w ∙ ap (λ v. plain (key_token i.0) ∷ (mark p.Colon ∷ v)) (sym (append_assoc (spelling d i.1) (more_props d more) (comma_at_end comma ++ mark p.CloseBrace ∷ []))),
+  e ∙ join j.2 w ∙ ap (λ v. plain (key_token i.0) ∷ (punct p.Colon ∷ v)) (sym (append_assoc (spelling d i.1) (more_props d more) (comma_at_end comma ++ punct p.CloseBrace ∷ []))),
 )
 
-some_close : (found : Props) (comma : Bool) → (v : Tree) × (m : List Mark) × a_close found comma v m
-some_close found comma = (object found comma, mark p.CloseBrace ∷ [], (tt, mark p.CloseBrace ∷ [], [], refl, (refl, refl), refl))
+some_close : (found : Props) (comma : Bool) → (v : Tree) × (m : List Symbol) × a_close found comma v m
+some_close found comma = (object found comma, punct p.CloseBrace ∷ [], (tt, punct p.CloseBrace ∷ [], [], refl, (refl, refl), refl))
 
-some_end : (d : ℕ) (found : Props) → (v : Tree) × (m : List Mark) × an_end d found v m
+some_end : (d : ℕ) (found : Props) → (v : Tree) × (m : List Symbol) × an_end d found v m
 some_end d found = let k = some_close found false in (k.0, k.1, close-end d found k.0 k.1 k.2)
 
-some_after_comma : (d : ℕ) (found : Props) → (v : Tree) × (m : List Mark) × after_comma d found v m
+some_after_comma : (d : ℕ) (found : Props) → (v : Tree) × (m : List Symbol) × after_comma d found v m
 some_after_comma d found = let k = some_close found true in (k.0, k.1, inl k.2)
 
-pub some_object : (d : ℕ) → (v : Tree) × (m : List Mark) × an_object d v m
+pub some_object : (d : ℕ) → (v : Tree) × (m : List Symbol) × an_object d v m
 some_object d = let k = some_close no_props false in (k.0, k.1, close-object d k.0 k.1 k.2)
 
 -- ---- readers
@@ -239,7 +239,7 @@ module _ (limit d : ℕ) (below : Below) (ih : ReadsAt limit d below) where
   outcome-group ts = outcome-map group (an_ended d p.CloseParen) Any Any Any Any limit ts (λ _ _ _ _ s. s) (λ _ _ _ _ g. g) (ended below p.CloseParen ts) (outcome-ended p.CloseParen refl ts)
 
   -- an argument and a comma, and the arguments after it
-  outcome-argument : (K : Tree → Language Tree) → ((e : Tree) → (v : Tree) × (m : List Mark) × K e v m) → (ts : List Terminal) (f : Tree → Reader Tree)
+  outcome-argument : (K : Tree → Language Tree) → ((e : Tree) → (v : Tree) × (m : List Symbol) × K e v m) → (ts : List Terminal) (f : Tree → Reader Tree)
       → ((e : Tree) (r : List Terminal) → Outcome (K e) Any Any limit r (f e r)) → Outcome (bind (an_ended d p.Comma) K) Any Any limit ts (and_then (ended below p.Comma ts) f)
   outcome-argument K some ts f more =
       outcome-bind (an_ended d p.Comma) Any Any K Any Any limit (λ _ _ _ _ _ _ _ _. tt) (λ e _ _. some e) ts (ended below p.Comma ts) f (outcome-ended p.Comma refl ts) (λ e x r l g front. more e r)

@@ -5,11 +5,11 @@ use Rattle.jo_tree.specs.declared.operator.BinaryOperator.{BinaryOperator}
 use Rattle.jo_grammar.specs.declared.terminal.Terminal.{Terminal}
 use Rattle.jo_tree.specs.Trees.{Tree, number, literal, constant, variable, group, object, cas, member, unary, delete, chain, choose, assign, Links, no_links, link}
 use Rattle.jo_grammar.specs.Operators.{binary_token}
-use Rattle.jo_grammar.specs.Expressions.{Mark, Fits, FitLinks, spelling, links}
+use Rattle.jo_grammar.specs.Expressions.{Symbol, MayStand, FitLinks, spelling, links}
 use Rattle.jo_grammar.specs.Refusals.{Language, terms}
 use Rattle.jo_grammar.specs.inner.Read.{peek, next, rank, binary_of, with_link, Below, prefixed, links_from, chain_of, chains}
 use Rattle.jo_grammar.proofs.Outcome.{Outcome, bind, outcome-bind, outcome-choose, Any, nothing, outcome-pure, one, outcome-same, mapped, outcome-map, outcome-if, join, opened-after}
-use Rattle.jo_grammar.proofs.Levels.{at, Above, ReadsAt, outcome-below, some_tree, nil-right, not-longer, rank-cons, Fits-lower}
+use Rattle.jo_grammar.proofs.Levels.{at, Above, ReadsAt, outcome-below, some_tree, nil-right, not-longer, rank-cons, MayStand-lower}
 use Rattle.jo_grammar.proofs.Operands.{outcome-prefixed}
 use Rattle.jo_grammar.proofs.Tokens.{rank-is-binary, binary-of-token, rank-of-binary}
 
@@ -36,14 +36,14 @@ a_links ins d k found ls m = (more : Links) × FitLinks ins false k more × (ls 
 abbrev a_turn : Bool → ℕ → ℕ → Links → Terminal → Language Links
 a_turn ins d k found c = bind (one c (d + 1)) (λ _. bind (at ins (k + 1) (d + 1)) (λ e. a_links ins d k (with_link found (binary_of c) e)))
 
-links-none : (ins : Bool) (d k : ℕ) (found ls : Links) (m : List Mark) → nothing found ls m → a_links ins d k found ls m
+links-none : (ins : Bool) (d k : ℕ) (found ls : Links) (m : List Symbol) → nothing found ls m → a_links ins d k found ls m
 links-none ins d k found ls m q = (no_links, refl, q.0 ∙ sym (links_both-none found), q.1)
 
-some_links : (ins : Bool) (d k : ℕ) (found : Links) → (ls : Links) × (m : List Mark) × a_links ins d k found ls m
+some_links : (ins : Bool) (d k : ℕ) (found : Links) → (ls : Links) × (m : List Symbol) × a_links ins d k found ls m
 some_links ins d k found = (found, [], links-none ins d k found found [] (refl, refl))
 
 -- one link and the others, as they are read
-link-turn : (ins : Bool) (d k : ℕ) (found ls : Links) (m : List Mark) (o : BinaryOperator) (i : Tree) (more : Links)
+link-turn : (ins : Bool) (d k : ℕ) (found ls : Links) (m : List Symbol) (o : BinaryOperator) (i : Tree) (more : Links)
     → FitLinks ins false k (link o i more) → ls ≡ links_both found (link o i more) → m ≡ links d (link o i more) → a_turn ins d k found (binary_token o) ls m
 link-turn ins d k found ls m o i more f g e =
     let same : links_both (with_link found (binary_of (binary_token o)) i) more ≡ links_both found (link o i more) =
@@ -56,7 +56,7 @@ link-turn ins d k found ls m o i more f g e =
       e,
     )
 
-links-first : (ins : Bool) (d k : ℕ) (found ls : Links) (m : List Mark) (r : List Terminal) → a_links ins d k found ls m → rank ins (peek r) < k
+links-first : (ins : Bool) (d k : ℕ) (found ls : Links) (m : List Symbol) (r : List Terminal) → a_links ins d k found ls m → rank ins (peek r) < k
     → ((rank ins (peek (terms m ++ r)) ≡ k) × a_turn ins d k found (peek (terms m ++ r)) ls m) ⊎ ((rank ins (peek (terms m ++ r)) < k) × nothing found ls m)
 links-first ins d k found ls m r (no_links, f, g, e) s =
     inr (let a : rank ins (peek (terms m ++ r)) ≡ rank ins (peek r) = ap (λ v. rank ins (peek (terms v ++ r))) e in omega arith, (g ∙ links_both-none found, e))
@@ -67,7 +67,7 @@ links-first ins d k found ls m r (link o i more, f, g, e) s =
       subst (λ z. a_turn ins d k found z ls m) (sym here) (link-turn ins d k found ls m o i more f g e),
     )
 
-turn-to : (ins : Bool) (d k : ℕ) (found : Links) (c : Terminal) → 3 ≤ k → k ≤ 8 → rank ins c ≡ k → (ls : Links) (m : List Mark) → a_turn ins d k found c ls m → a_links ins d k found ls m
+turn-to : (ins : Bool) (d k : ℕ) (found : Links) (c : Terminal) → 3 ≤ k → k ≤ 8 → rank ins c ≡ k → (ls : Links) (m : List Symbol) → a_turn ins d k found c ls m → a_links ins d k found ls m
 turn-to ins d k found c low high here ls m (u, x, y, l, (i, x', y', a, (more, f, g, w), e'), e) =
     let b = rank-is-binary ins c (omega arith) (omega arith) in (
       link (binary_of c) i more,
@@ -77,7 +77,7 @@ turn-to ins d k found c low high here ls m (u, x, y, l, (i, x', y', a, (more, f,
     )
 
 -- what follows an operand of a chain is no operator of a higher level
-links-follow : (ins : Bool) (d k : ℕ) (found ls : Links) (m : List Mark) (r : List Terminal) → a_links ins d k found ls m → rank ins (peek r) < k → rank ins (peek (terms m ++ r)) < k + 1
+links-follow : (ins : Bool) (d k : ℕ) (found ls : Links) (m : List Symbol) (r : List Terminal) → a_links ins d k found ls m → rank ins (peek r) < k → rank ins (peek (terms m ++ r)) < k + 1
 links-follow ins d k found ls m r q s = elim (links-first ins d k found ls m r q s) [ inl x ↦ omega (arith, x.0) | inr x ↦ omega (arith, x.0) ]
 
 -- ---- a chain in parts
@@ -85,18 +85,18 @@ links-follow ins d k found ls m r q s = elim (links-first ins d k found ls m r q
 abbrev chain_parts : Bool → ℕ → ℕ → Language Tree
 chain_parts ins d k = bind (at ins (k + 1) d) (λ e. mapped (chain_of k e) (a_links ins d k no_links))
 
-chain-to : (ins : Bool) (d k : ℕ) (v : Tree) (m : List Mark) → chain_parts ins d k v m → at ins k d v m
+chain-to : (ins : Bool) (d k : ℕ) (v : Tree) (m : List Symbol) → chain_parts ins d k v m → at ins k d v m
 chain-to ins d k v m (e, x, y, a, (ls, (no_links, f, g, w), h), q) =
     let same : v ≡ e = h ∙ ap (λ z. chain_of k e z) g in
-    (subst (λ z. Fits ins k z) (sym same) (Fits-lower ins k (k + 1) e (omega arith) a.0), q ∙ join a.1 w ∙ nil-right (spelling d e) ∙ ap (λ z. spelling d z) (sym same))
+    (subst (λ z. MayStand ins k z) (sym same) (MayStand-lower ins k (k + 1) e (omega arith) a.0), q ∙ join a.1 w ∙ nil-right (spelling d e) ∙ ap (λ z. spelling d z) (sym same))
 chain-to ins d k v m (e, x, y, a, (ls, (link o i more, f, g, w), h), q) =
     let same : v ≡ chain k e (link o i more) = h ∙ ap (λ z. chain_of k e z) g in
-    (subst (λ z. Fits ins k z) (sym same) (omega arith, a.0, f), q ∙ join a.1 w ∙ ap (λ z. spelling d z) (sym same))
+    (subst (λ z. MayStand ins k z) (sym same) (omega arith, a.0, f), q ∙ join a.1 w ∙ ap (λ z. spelling d z) (sym same))
 
-chain-alone : (ins : Bool) (d k : ℕ) (v : Tree) (m : List Mark) → at ins (k + 1) d v m → chain_parts ins d k v m
+chain-alone : (ins : Bool) (d k : ℕ) (v : Tree) (m : List Symbol) → at ins (k + 1) d v m → chain_parts ins d k v m
 chain-alone ins d k v m h = (v, m, [], h, (no_links, (no_links, refl, refl, refl), refl), sym (nil-right m))
 
-chain-from-at : (ins : Bool) (d k j : ℕ) (e : Tree) (ls : Links) (m : List Mark) → at ins k d (chain j e ls) m → (b : Bool) → eqb k j ≡ b → chain_parts ins d k (chain j e ls) m
+chain-from-at : (ins : Bool) (d k j : ℕ) (e : Tree) (ls : Links) (m : List Symbol) → at ins k d (chain j e ls) m → (b : Bool) → eqb k j ≡ b → chain_parts ins d k (chain j e ls) m
 chain-from-at ins d k j e no_links m h b q = let f = h.0.2 in cc
 chain-from-at ins d k j e (link o i more) m h true q =
     let same : k ≡ j = eqb-true k j q in
@@ -104,7 +104,7 @@ chain-from-at ins d k j e (link o i more) m h true q =
       e,
       spelling d e,
       links d (link o i more),
-      (subst (λ z. Fits ins (z + 1) e) (sym same) h.0.1, refl),
+      (subst (λ z. MayStand ins (z + 1) e) (sym same) h.0.1, refl),
       (link o i more, (link o i more, subst (λ z. FitLinks ins false z (link o i more)) (sym same) h.0.2, refl, refl), refl),
       h.1,
     )
@@ -112,7 +112,7 @@ chain-from-at ins d k j e (link o i more) m h false q =
     let apart : k ≡ j → ⊥ = λ same. let f : eqb k j ≡ true = eq-eqb k j same in cc in
     chain-alone ins d k (chain j e (link o i more)) m ((omega arith, h.0.1, h.0.2), h.1)
 
-chain-from : (ins : Bool) (d k : ℕ) → 3 ≤ k → k ≤ 8 → (v : Tree) (m : List Mark) → at ins k d v m → chain_parts ins d k v m
+chain-from : (ins : Bool) (d k : ℕ) → 3 ≤ k → k ≤ 8 → (v : Tree) (m : List Symbol) → at ins k d v m → chain_parts ins d k v m
 chain-from ins d k low high (number i) m h = chain-alone ins d k (number i) m h
 chain-from ins d k low high (literal s) m h = chain-alone ins d k (literal s) m h
 chain-from ins d k low high (constant w) m h = chain-alone ins d k (constant w) m h

@@ -4,11 +4,11 @@ use Rattle.jo_lex.specs.declared.punct.Punct.TheVariants as p
 use Rattle.jo_grammar.specs.declared.terminal.Terminal.{Terminal}
 use Rattle.jo_grammar.specs.declared.terminal.Terminal.TheVariants as t
 use Rattle.jo_tree.specs.Trees.{Tree, number, literal, constant, variable, group, object, cas, member, unary, delete, chain, choose, assign}
-use Rattle.jo_grammar.specs.Expressions.{Mark, mark, IsTarget, Fits, spelling}
+use Rattle.jo_grammar.specs.Expressions.{Symbol, punct, IsTarget, MayStand, spelling}
 use Rattle.jo_grammar.specs.Refusals.{Language, terms}
 use Rattle.jo_grammar.specs.inner.Read.{and_then, open_at, peek, next, sees, rank, Below, chains, choice, condition}
 use Rattle.jo_grammar.proofs.Outcome.{Stops, Outcome, bind, outcome-bind, outcome-choose, Any, nothing, outcome-pure, one, outcome-same, mapped, join, first-of, some-after, outcome-sees, opened-after}
-use Rattle.jo_grammar.proofs.Levels.{at, Above, ReadsAt, some_tree, nil-right, links-level, Fits-lower, closed_by, outcome-closed, outcome-inner}
+use Rattle.jo_grammar.proofs.Levels.{at, Above, ReadsAt, some_tree, nil-right, links-level, MayStand-lower, closed_by, outcome-closed, outcome-inner}
 use Rattle.jo_grammar.proofs.Chains.{outcome-chains}
 
 -- what may follow a condition: an operator that assigns only where it is a target
@@ -30,40 +30,40 @@ condition_rest ins d a v m = a_question ins d a v m ⊎ nothing a v m
 abbrev condition_parts : Bool → ℕ → Language Tree
 condition_parts ins d = bind (at ins 3 d) (λ a. condition_rest ins d a)
 
-some_choice : (ins : Bool) (d : ℕ) (a : Tree) → (v : Tree) × (m : List Mark) × a_choice ins d a v m
+some_choice : (ins : Bool) (d : ℕ) (a : Tree) → (v : Tree) × (m : List Symbol) × a_choice ins d a v m
 some_choice ins d a =
     let b = some_tree ins 1 d in
     let c = some-after (t.Punct p.Colon) 0 (mapped (choose a b.0) (at ins 1 d)) (choose a b.0 b.0, b.1, (b.0, b.2, refl)) in
     (c.0, b.1 ++ c.1, (b.0, b.1, c.1, b.2, c.2, refl))
 
-question-to : (ins : Bool) (d : ℕ) (a v : Tree) (m : List Mark) → Fits ins 3 a → a_question ins d a v m → Fits ins 2 v × (spelling d a ++ m ≡ spelling d v)
+question-to : (ins : Bool) (d : ℕ) (a v : Tree) (m : List Symbol) → MayStand ins 3 a → a_question ins d a v m → MayStand ins 2 v × (spelling d a ++ m ≡ spelling d v)
 question-to ins d a v m f (u, x1, y1, l1, (b, x2, y2, h2, (u', x3, y3, l3, (c, h4, same), e3), e2), e1) = (
-  subst (λ z. Fits ins 2 z) (sym same) (omega arith, f, h2.0, h4.0),
+  subst (λ z. MayStand ins 2 z) (sym same) (omega arith, f, h2.0, h4.0),
   ap (λ z. spelling d a ++ z) (e1 ∙ join l1 (e2 ∙ join h2.1 (e3 ∙ join l3 h4.1))) ∙ ap (λ z. spelling d z) (sym same),
 )
 
-condition-to : (ins : Bool) (d : ℕ) (v : Tree) (m : List Mark) → condition_parts ins d v m → at ins 2 d v m
+condition-to : (ins : Bool) (d : ℕ) (v : Tree) (m : List Symbol) → condition_parts ins d v m → at ins 2 d v m
 condition-to ins d v m (a, x, y, h, inl k, e) =
     let f = question-to ins d a v y h.0 k in
     (f.0, e ∙ ap (λ z. z ++ y) h.1 ∙ f.1)
 condition-to ins d v m (a, x, y, h, inr k, e) =
-    (subst (λ z. Fits ins 2 z) (sym k.0) (Fits-lower ins 2 3 a (omega arith) h.0), e ∙ join h.1 k.1 ∙ nil-right (spelling d a) ∙ ap (λ z. spelling d z) (sym k.0))
+    (subst (λ z. MayStand ins 2 z) (sym k.0) (MayStand-lower ins 2 3 a (omega arith) h.0), e ∙ join h.1 k.1 ∙ nil-right (spelling d a) ∙ ap (λ z. spelling d z) (sym k.0))
 
-condition-alone : (ins : Bool) (d : ℕ) (v : Tree) (m : List Mark) → at ins 3 d v m → condition_parts ins d v m
+condition-alone : (ins : Bool) (d : ℕ) (v : Tree) (m : List Symbol) → at ins 3 d v m → condition_parts ins d v m
 condition-alone ins d v m h = (v, m, [], h, inr (refl, refl), sym (nil-right m))
 
-question-from : (ins : Bool) (d : ℕ) (a b c : Tree) → Fits ins 1 b → Fits ins 1 c
-    → a_question ins d a (choose a b c) ((t.Punct p.Question, d + 1) ∷ (spelling (d + 1) b ++ mark p.Colon ∷ spelling (d + 1) c))
+question-from : (ins : Bool) (d : ℕ) (a b c : Tree) → MayStand ins 1 b → MayStand ins 1 c
+    → a_question ins d a (choose a b c) ((t.Punct p.Question, d + 1) ∷ (spelling (d + 1) b ++ punct p.Colon ∷ spelling (d + 1) c))
 question-from ins d a b c f g = (
   tt,
   (t.Punct p.Question, d + 1) ∷ [],
-  spelling (d + 1) b ++ mark p.Colon ∷ spelling (d + 1) c,
+  spelling (d + 1) b ++ punct p.Colon ∷ spelling (d + 1) c,
   refl,
-  (b, spelling (d + 1) b, mark p.Colon ∷ spelling (d + 1) c, (f, refl), (tt, mark p.Colon ∷ [], spelling (d + 1) c, refl, (c, (g, refl), refl), refl), refl),
+  (b, spelling (d + 1) b, punct p.Colon ∷ spelling (d + 1) c, (f, refl), (tt, punct p.Colon ∷ [], spelling (d + 1) c, refl, (c, (g, refl), refl), refl), refl),
   refl,
 )
 
-condition-from : (ins : Bool) (d : ℕ) (v : Tree) (m : List Mark) → at ins 2 d v m → condition_parts ins d v m
+condition-from : (ins : Bool) (d : ℕ) (v : Tree) (m : List Symbol) → at ins 2 d v m → condition_parts ins d v m
 condition-from ins d (number i) m h = condition-alone ins d (number i) m h
 condition-from ins d (literal s) m h = condition-alone ins d (literal s) m h
 condition-from ins d (constant w) m h = condition-alone ins d (constant w) m h
@@ -76,21 +76,21 @@ condition-from ins d (unary o e) m h = condition-alone ins d (unary o e) m ((ome
 condition-from ins d (delete e) m h = condition-alone ins d (delete e) m ((omega arith, h.0.1, h.0.2), h.1)
 condition-from ins d (chain j e ls) m h = let f = links-level ins j ls h.0.2 in condition-alone ins d (chain j e ls) m ((f.0, h.0.1, h.0.2), h.1)
 condition-from ins d (choose a b c) m h =
-    (a, spelling d a, (t.Punct p.Question, d + 1) ∷ (spelling (d + 1) b ++ mark p.Colon ∷ spelling (d + 1) c), (h.0.1, refl), inl (question-from ins d a b c h.0.2 h.0.3), h.1)
+    (a, spelling d a, (t.Punct p.Question, d + 1) ∷ (spelling (d + 1) b ++ punct p.Colon ∷ spelling (d + 1) c), (h.0.1, refl), inl (question-from ins d a b c h.0.2 h.0.3), h.1)
 condition-from ins d (assign o a b) m h = absurd (omega arith)
 
--- ---- which tokens may follow
+-- ---- which terminals may follow
 
 choice-stops : (ins : Bool) (v : Tree) (c : Terminal) (a b w : Tree) → v ≡ choose a b w → AboveCondition ins v c → rank ins c < 1
 choice-stops ins v c a b w same s =
     let none : rank ins c ≡ 1 → ⊥ = λ h. subst (λ z. IsTarget z) same (s.1 h) in
     omega (arith, s.0)
 
-condition-follow : (ins : Bool) (d : ℕ) (a v : Tree) (m : List Mark) (r : List Terminal) → condition_rest ins d a v m → AboveCondition ins v (peek r) → rank ins (peek (terms m ++ r)) < 3
+condition-follow : (ins : Bool) (d : ℕ) (a v : Tree) (m : List Symbol) (r : List Terminal) → condition_rest ins d a v m → AboveCondition ins v (peek r) → rank ins (peek (terms m ++ r)) < 3
 condition-follow ins d a v m r (inl k) s = let f : rank ins (peek (terms m ++ r)) ≡ 2 = ap (rank ins) (first-of (t.Punct p.Question) (d + 1) (a_choice ins (d + 1) a) v m r k) in omega arith
 condition-follow ins d a v m r (inr k) s = let f : rank ins (peek (terms m ++ r)) ≡ rank ins (peek r) = ap (λ z. rank ins (peek (terms z ++ r))) k.1 in omega (arith, s.0)
 
-condition-split : (ins : Bool) (d : ℕ) (a v : Tree) (m : List Mark) (r : List Terminal) → condition_rest ins d a v m → AboveCondition ins v (peek r)
+condition-split : (ins : Bool) (d : ℕ) (a v : Tree) (m : List Symbol) (r : List Terminal) → condition_rest ins d a v m → AboveCondition ins v (peek r)
     → ((peek (terms m ++ r) ≡ t.Punct p.Question) × a_question ins d a v m) ⊎ ((peek (terms m ++ r) ≡ t.Punct p.Question → ⊥) × nothing a v m)
 condition-split ins d a v m r (inl k) s = inl (first-of (t.Punct p.Question) (d + 1) (a_choice ins (d + 1) a) v m r k, k)
 condition-split ins d a v m r (inr k) s =

@@ -5,7 +5,7 @@ use Rattle.jo_grammar.specs.declared.terminal.Terminal.{Terminal}
 use Rattle.jo_grammar.specs.declared.terminal.Terminal.TheVariants as t
 use Rattle.jo_tree.specs.declared.word.Ident.{Ident}
 use Rattle.jo_tree.specs.Trees.{Tree, Binding}
-use Rattle.jo_grammar.specs.Expressions.{Mark, mark, plain, spelling}
+use Rattle.jo_grammar.specs.Expressions.{Symbol, punct, plain, spelling}
 use Rattle.jo_grammar.specs.Statements.{FitOptional, FitBindings, initial, binding, more_bindings, bindings}
 use Rattle.jo_grammar.specs.Refusals.{Language, terms}
 use Rattle.jo_grammar.specs.inner.Read.{peek, next, rank, read}
@@ -45,17 +45,17 @@ an_initial ins d v m = FitOptional ins v × (m ≡ initial d v)
 abbrev assigned : Bool → ℕ → Language (Option Tree)
 assigned ins d = bind (one (t.Punct p.Assign) (d + 1)) (λ _. mapped Some (at ins 1 (d + 1)))
 
-assigned-to : (ins : Bool) (d : ℕ) (v : Option Tree) (m : List Mark) → assigned ins d v m → an_initial ins d v m
+assigned-to : (ins : Bool) (d : ℕ) (v : Option Tree) (m : List Symbol) → assigned ins d v m → an_initial ins d v m
 assigned-to ins d v m (u, x, y, l, (e, k, same), f) = (subst (λ z. FitOptional ins z) (sym same) k.0, f ∙ join l k.1 ∙ ap (λ z. initial d z) (sym same))
 
-none-to : (ins : Bool) (d : ℕ) (v : Option Tree) (m : List Mark) → nothing None v m → an_initial ins d v m
+none-to : (ins : Bool) (d : ℕ) (v : Option Tree) (m : List Symbol) → nothing None v m → an_initial ins d v m
 none-to ins d v m k = (subst (λ z. FitOptional ins z) (sym k.0) tt, k.1 ∙ ap (λ z. initial d z) (sym k.0))
 
 rank-assign : (ins : Bool) → rank ins (t.Punct p.Assign) ≡ 1
 rank-assign true = refl
 rank-assign false = refl
 
-initial-split : (ins : Bool) (d : ℕ) (v : Option Tree) (m : List Mark) (r : List Terminal) → an_initial ins d v m → rank ins (peek r) < 1
+initial-split : (ins : Bool) (d : ℕ) (v : Option Tree) (m : List Symbol) (r : List Terminal) → an_initial ins d v m → rank ins (peek r) < 1
     → ((peek (terms m ++ r) ≡ t.Punct p.Assign) × assigned ins d v m) ⊎ ((peek (terms m ++ r) ≡ t.Punct p.Assign → ⊥) × nothing None v m)
 initial-split ins d None m r k s =
     inr (
@@ -71,54 +71,54 @@ a_binding ins d b m = FitOptional ins b.1 × (m ≡ binding d b)
 binding_parts : Bool → ℕ → Language Binding
 binding_parts ins d = bind an_ident (λ x. mapped (λ v. (x, v)) (an_initial ins d))
 
-binding-to : (ins : Bool) (d : ℕ) (b : Binding) (m : List Mark) → binding_parts ins d b m → a_binding ins d b m
+binding-to : (ins : Bool) (d : ℕ) (b : Binding) (m : List Symbol) → binding_parts ins d b m → a_binding ins d b m
 unfolding binding_parts
 binding-to ins d b m (x, y, z, l, (v, k, same), e) = (subst (λ w. FitOptional ins w.1) (sym same) k.0, e ∙ join l k.1 ∙ ap (λ w. binding d w) (sym same))
 
-binding-from : (ins : Bool) (d : ℕ) (b : Binding) (m : List Mark) → a_binding ins d b m → binding_parts ins d b m
+binding-from : (ins : Bool) (d : ℕ) (b : Binding) (m : List Symbol) → a_binding ins d b m → binding_parts ins d b m
 unfolding binding_parts
 binding-from ins d b m k = (b.0, plain (t.Ident b.0) ∷ [], initial d b.1, refl, (b.1, (k.0, refl), refl), k.1)
 
-pub some_binding : (ins : Bool) (d : ℕ) → (b : Binding) × (m : List Mark) × a_binding ins d b m
+pub some_binding : (ins : Bool) (d : ℕ) → (b : Binding) × (m : List Symbol) × a_binding ins d b m
 some_binding ins d = ((some_ident, None), plain (t.Ident some_ident) ∷ [], (tt, refl))
 
 -- ---- bindings after `let`
 
 abbrev pub a_let : Bool → ℕ → Language (List Binding)
-a_let ins d bs m = FitBindings ins true bs × (m ≡ bindings d bs ++ mark p.Semicolon ∷ [])
+a_let ins d bs m = FitBindings ins true bs × (m ≡ bindings d bs ++ punct p.Semicolon ∷ [])
 
 abbrev let_parts : Bool → ℕ → Language (List Binding)
 let_parts ins d = bind (a_binding ins d) (λ b. elements_end (a_binding ins d) (t.Punct p.Semicolon) (b ∷ []))
 
-more-to : (ins : Bool) (d : ℕ) (bs : List Binding) (m : List Mark) → elements (a_binding ins d) (t.Punct p.Semicolon) bs m → FitBindings ins false bs × (m ≡ more_bindings d bs)
+more-to : (ins : Bool) (d : ℕ) (bs : List Binding) (m : List Symbol) → elements (a_binding ins d) (t.Punct p.Semicolon) bs m → FitBindings ins false bs × (m ≡ more_bindings d bs)
 more-to ins d [] m k = (refl, k)
-more-to ins d (b ∷ bs) m k = let f = more-to ins d bs k.1 k.3 in ((k.2.0, f.0), k.4 ∙ ap (λ z. mark p.Comma ∷ z) (join k.2.1 f.1))
+more-to ins d (b ∷ bs) m k = let f = more-to ins d bs k.1 k.3 in ((k.2.0, f.0), k.4 ∙ ap (λ z. punct p.Comma ∷ z) (join k.2.1 f.1))
 
 more-from : (ins : Bool) (d : ℕ) (bs : List Binding) → FitBindings ins false bs → elements (a_binding ins d) (t.Punct p.Semicolon) bs (more_bindings d bs)
 more-from ins d [] k = refl
 more-from ins d (b ∷ bs) k = (binding d b, more_bindings d bs, (k.0, refl), more-from ins d bs k.1, refl)
 
-let-to : (ins : Bool) (d : ℕ) (v : List Binding) (m : List Mark) → let_parts ins d v m → a_let ins d v m
+let-to : (ins : Bool) (d : ℕ) (v : List Binding) (m : List Symbol) → let_parts ins d v m → a_let ins d v m
 let-to ins d v m (b, x, y, l, (bs, z, k, same, w), e) =
     let f = more-to ins d bs z k in (
       subst (λ q. FitBindings ins true q) (sym same) (l.0, f.0),
-      e ∙ (join l.1 (w ∙ ap (λ q. q ++ mark p.Semicolon ∷ []) f.1) ∙ (sym (append_assoc (binding d b) (more_bindings d bs) (mark p.Semicolon ∷ [])) ∙ ap (λ q. bindings d q ++ mark p.Semicolon ∷ []) (sym same))),
+      e ∙ (join l.1 (w ∙ ap (λ q. q ++ punct p.Semicolon ∷ []) f.1) ∙ (sym (append_assoc (binding d b) (more_bindings d bs) (punct p.Semicolon ∷ [])) ∙ ap (λ q. bindings d q ++ punct p.Semicolon ∷ []) (sym same))),
     )
 
-let-from : (ins : Bool) (d : ℕ) (v : List Binding) (m : List Mark) → a_let ins d v m → let_parts ins d v m
+let-from : (ins : Bool) (d : ℕ) (v : List Binding) (m : List Symbol) → a_let ins d v m → let_parts ins d v m
 let-from ins d [] m k = let h = k.0 in cc
 let-from ins d (b ∷ bs) m k = (
   b,
   binding d b,
-  more_bindings d bs ++ mark p.Semicolon ∷ [],
+  more_bindings d bs ++ punct p.Semicolon ∷ [],
   (k.0.0, refl),
   (bs, more_bindings d bs, more-from ins d bs k.0.1, refl, refl),
-  k.1 ∙ append_assoc (binding d b) (more_bindings d bs) (mark p.Semicolon ∷ []),
+  k.1 ∙ append_assoc (binding d b) (more_bindings d bs) (punct p.Semicolon ∷ []),
 )
 
-pub some_let : (ins : Bool) (d : ℕ) → (bs : List Binding) × (m : List Mark) × a_let ins d bs m
+pub some_let : (ins : Bool) (d : ℕ) → (bs : List Binding) × (m : List Symbol) × a_let ins d bs m
 unfolding some_binding
-some_let ins d = let b = some_binding ins d in (b.0 ∷ [], b.1 ++ mark p.Semicolon ∷ [], ((b.2.0, refl), refl))
+some_let ins d = let b = some_binding ins d in (b.0 ∷ [], b.1 ++ punct p.Semicolon ∷ [], ((b.2.0, refl), refl))
 
 -- ---- how they are read
 

@@ -1,7 +1,7 @@
 -- Terminals get one answer: where they are accepted they are not refused, and they are refused in one way at one place.
 use Rattle.std.proofs.Common.{◌≡◌, ◌⊎◌, inl, inr, ℕ, ◌+◌, ◌≤◌, ◌<◌, List, [], ◌∷◌, ◌++◌, Result, Ok, Err, refl, sym, ◌∙◌, ap, subst, append_assoc, arith, length, length-append}
 use Rattle.jo_grammar.specs.declared.terminal.Terminal.{Terminal}
-use Rattle.jo_grammar.specs.Expressions.{Mark}
+use Rattle.jo_grammar.specs.Expressions.{Symbol}
 use Rattle.jo_grammar.specs.Refusals.{Language, terms, Within, BeginsWithin, Never, OpensTooMany, EachOpensTooMany, IsAccepted, Fault, unexpected, too_deep, IsRefused}
 use Rattle.jo_grammar.proofs.Outcome.{terms-append}
 use Rattle.jo_grammar.proofs.Accepted.{list-end, Answers}
@@ -29,17 +29,17 @@ compared (c ∷ x) r (b ∷ y) s e =
     let tail : x ++ r ≡ y ++ s = cc in
     compared-cons c b x r y s head (compared x r y s tail)
 
-length-terms : (w : List Mark) → length (terms w) ≡ length w
+length-terms : (w : List Symbol) → length (terms w) ≡ length w
 length-terms [] = refl
 length-terms (m ∷ w) = let e = length-terms w in omega arith
 
--- a mark in a part that keeps within the limit does so
-within-front : (limit : ℕ) (w q x : List Mark) (m : Mark) (y : List Mark) → w ++ q ≡ x ++ m ∷ y → length x < length w → Within limit w → m.1 ≤ limit
+-- a symbol in a part that keeps within the limit does so
+within-front : (limit : ℕ) (w q x : List Symbol) (m : Symbol) (y : List Symbol) → w ++ q ≡ x ++ m ∷ y → length x < length w → Within limit w → m.1 ≤ limit
 within-front limit [] q x m y e h k = absurd (omega arith)
 within-front limit (a ∷ w) q [] m y e h k = let f : a ≡ m = cc in subst (λ v. v.1 ≤ limit) f k.0
 within-front limit (a ∷ w) q (b ∷ x) m y e h k = let f : w ++ q ≡ x ++ m ∷ y = cc in within-front limit w q x m y f (omega arith) k.1
 
-within-whole : (limit : ℕ) (x : List Mark) (m : Mark) (y : List Mark) → Within limit (x ++ m ∷ y) → m.1 ≤ limit
+within-whole : (limit : ℕ) (x : List Symbol) (m : Symbol) (y : List Symbol) → Within limit (x ++ m ∷ y) → m.1 ≤ limit
 within-whole limit [] m y k = k.0
 within-whole limit (a ∷ x) m y k = within-whole limit x m y k.1
 
@@ -114,7 +114,7 @@ module _ {A : Type 0} (L : Language A) (limit : ℕ) where
       same-place f g ts r s a b (compared a.0 r b.0 s (sym a.1 ∙ b.1))
 
   -- a spelling that keeps within the limit is not refused
-  pub kept-not-refused : (f : Fault) (ts r : List Terminal) (a : A) (m : List Mark) → L a m → terms m ≡ ts → Within limit m → IsRefused L limit f ts r → ⊥
+  pub kept-not-refused : (f : Fault) (ts r : List Terminal) (a : A) (m : List Symbol) → L a m → terms m ≡ ts → Within limit m → IsRefused L limit f ts r → ⊥
   kept-not-refused unexpected ts [] a m k e w h = h.3 a (m, k, e ∙ (h.1 ∙ list-end h.0))
   kept-not-refused unexpected ts (c ∷ r) a m k e w h = h.3 (a, r, (m, k, e ∙ (h.1 ∙ sym (append_assoc h.0 (c ∷ []) r))))
   kept-not-refused too_deep ts [] a m k e w h = elim h.2 [ ]
@@ -138,6 +138,6 @@ module _ {A : Type 0} (L : Language A) (limit : ℕ) where
   answer-once ts (Err f) (Err g) h k = let e = refused-once f.0 g.0 ts f.1 g.1 h k in ap (λ v. Err (v, f.1)) e.0 ∙ ap (λ v. Err (g.0, v)) e.1
 
   -- and for a spelling that keeps within the limit it is its tree
-  pub answer-kept : (ts : List Terminal) (a : A) (m : List Mark) → L a m → terms m ≡ ts → Within limit m → (x : Result A (Fault × List Terminal)) → Answers L limit ts x → x ≡ Ok a
+  pub answer-kept : (ts : List Terminal) (a : A) (m : List Symbol) → L a m → terms m ≡ ts → Within limit m → (x : Result A (Fault × List Terminal)) → Answers L limit ts x → x ≡ Ok a
   answer-kept ts a m k e w (Ok b) h = ap (λ v. Ok v) (sym (h.4 a (m, k, e)))
   answer-kept ts a m k e w (Err f) h = absurd (kept-not-refused f.0 ts f.1 a m k e w h)

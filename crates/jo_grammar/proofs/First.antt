@@ -1,4 +1,4 @@
--- The tokens that expressions and statements begin with.
+-- The terminals that expressions and statements begin with.
 use Rattle.std.proofs.Common.{◌≡◌, Bool, true, false, ℕ, ◌+◌, List, [], ◌∷◌, ◌++◌, refl, sym, ◌∙◌, ap}
 use Rattle.jo_lex.specs.declared.punct.Punct.TheVariants as p
 use Rattle.jo_tree.specs.declared.keyword.Keyword.{Keyword}
@@ -8,7 +8,7 @@ use Rattle.jo_grammar.specs.declared.terminal.Terminal.{Terminal}
 use Rattle.jo_grammar.specs.declared.terminal.Terminal.TheVariants as t
 use Rattle.jo_tree.specs.Trees.{Tree, number, literal, constant, variable, group, object, cas, member, unary, delete, chain, choose, assign, Statement, empty, block, when, either, while, for, break, continue, print, print_names, evaluate}
 use Rattle.jo_grammar.specs.Operators.{is_constant}
-use Rattle.jo_grammar.specs.Expressions.{Mark, mark, Fits, spelling, first}
+use Rattle.jo_grammar.specs.Expressions.{Symbol, punct, MayStand, spelling, first}
 use Rattle.jo_grammar.specs.Statements.{FitStatement, statement}
 use Rattle.jo_grammar.specs.Refusals.{Language, terms}
 use Rattle.jo_grammar.specs.inner.Read.{peek}
@@ -17,7 +17,7 @@ use Rattle.jo_grammar.proofs.Levels.{at, first-is, first-at}
 
 -- ---- expressions
 
--- some expression begins with the token
+-- some expression begins with the terminal
 abbrev pub begins_tree : Terminal → Bool
 begins_tree (t.Ident x) = true
 begins_tree (t.Number i) = true
@@ -36,7 +36,7 @@ constant-begins kw.Cas h = refl
 constant-begins kw.Delete h = refl
 constant-begins _ h = h
 
-pub first-begins : (ins : Bool) (l : ℕ) (e : Tree) → Fits ins l e → begins_tree (first e) ≡ true
+pub first-begins : (ins : Bool) (l : ℕ) (e : Tree) → MayStand ins l e → begins_tree (first e) ≡ true
 first-begins ins l (number i) f = refl
 first-begins ins l (literal s) f = refl
 first-begins ins l (constant w) f = constant-begins w f
@@ -52,16 +52,16 @@ first-begins ins l (chain k e ls) f = first-begins ins (k + 1) e f.1
 first-begins ins l (choose a b c) f = first-begins ins 3 a f.1
 first-begins ins l (assign o a b) f = first-begins ins 10 a f.2
 
-pub tree-begins : (ins : Bool) (l d : ℕ) (e : Tree) (m : List Mark) (r : List Terminal) → at ins l d e m → begins_tree (peek (terms m ++ r)) ≡ true
+pub tree-begins : (ins : Bool) (l d : ℕ) (e : Tree) (m : List Symbol) (r : List Terminal) → at ins l d e m → begins_tree (peek (terms m ++ r)) ≡ true
 tree-begins ins l d e m r k = ap begins_tree (first-at ins l d e m r k) ∙ first-begins ins l e k.0
 
 -- what begins no expression begins none
-pub not-first : (c : Terminal) → begins_tree c ≡ false → (ins : Bool) (l d : ℕ) (e : Tree) (m : List Mark) (r : List Terminal) → at ins l d e m → peek (terms m ++ r) ≡ c → ⊥
+pub not-first : (c : Terminal) → begins_tree c ≡ false → (ins : Bool) (l d : ℕ) (e : Tree) (m : List Symbol) (r : List Terminal) → at ins l d e m → peek (terms m ++ r) ≡ c → ⊥
 not-first c h ins l d e m r k g = let f : true ≡ false = sym (tree-begins ins l d e m r k) ∙ (ap begins_tree g ∙ h) in cc
 
 -- ---- statements
 
--- some statement begins with the token
+-- some statement begins with the terminal
 abbrev pub begins_statement : Terminal → Bool
 begins_statement (t.Punct p.Semicolon) = true
 begins_statement (t.Keyword kw.If) = true
@@ -85,8 +85,8 @@ tree-is-statement (t.Keyword kw.PrintNames) h = refl
 tree-is-statement _ h = h
 
 -- an expression as a statement begins as the expression does
-pub run-is : (d : ℕ) (e : Tree) (r : List Terminal) → peek (terms (spelling d e ++ mark p.Semicolon ∷ []) ++ r) ≡ first e
-run-is d e r = ap peek (terms-split (spelling d e) (mark p.Semicolon ∷ []) r) ∙ first-is d e (terms (mark p.Semicolon ∷ []) ++ r)
+pub run-is : (d : ℕ) (e : Tree) (r : List Terminal) → peek (terms (spelling d e ++ punct p.Semicolon ∷ []) ++ r) ≡ first e
+run-is d e r = ap peek (terms-split (spelling d e) (punct p.Semicolon ∷ []) r) ∙ first-is d e (terms (punct p.Semicolon ∷ []) ++ r)
 
 pub statement-begins : (loops : Bool) (d : ℕ) (s : Statement) (r : List Terminal) → FitStatement loops s → begins_statement (peek (terms (statement d s) ++ r)) ≡ true
 statement-begins loops d empty r f = refl
@@ -106,7 +106,7 @@ abbrev pub statement_language : Bool → ℕ → Language Statement
 statement_language loops d s m = FitStatement loops s × (m ≡ statement d s)
 
 -- what begins no statement begins none
-pub not-statement : (c : Terminal) → begins_statement c ≡ false → (loops : Bool) (d : ℕ) (s : Statement) (m : List Mark) (r : List Terminal) → statement_language loops d s m → peek (terms m ++ r) ≡ c → ⊥
+pub not-statement : (c : Terminal) → begins_statement c ≡ false → (loops : Bool) (d : ℕ) (s : Statement) (m : List Symbol) (r : List Terminal) → statement_language loops d s m → peek (terms m ++ r) ≡ c → ⊥
 not-statement c h loops d s m r k g =
     let f : begins_statement (peek (terms m ++ r)) ≡ true = ap (λ v. begins_statement (peek (terms v ++ r))) k.1 ∙ statement-begins loops d s r k.0 in
     let q : true ≡ false = sym f ∙ (ap begins_statement g ∙ h) in cc

@@ -1,18 +1,18 @@
--- A language of which the first token is known.
+-- A language of which the first terminal is known.
 use Rattle.std.proofs.Common.{◌≡◌, ℕ, List, [], ◌∷◌, ◌++◌, Ok, Err, refl, sym, ◌∙◌, ap}
 use Rattle.jo_grammar.specs.declared.terminal.Terminal.{Terminal}
-use Rattle.jo_grammar.specs.Expressions.{Mark}
+use Rattle.jo_grammar.specs.Expressions.{Symbol}
 use Rattle.jo_grammar.specs.Refusals.{Language, terms, Within, unexpected, too_deep}
 use Rattle.jo_grammar.specs.inner.Read.{Reading, peek}
 use Rattle.jo_grammar.proofs.Outcome.{Stops, Stuck, Outcome}
 
--- what the first language spells from this token on is in the second, and there is nothing else in the second
+-- what the first language spells from this terminal on is in the second, and there is nothing else in the second
 module _ {A : Type 0} (L L' : Language A) (S S' G G' : Stops A) (limit : ℕ) (ts : List Terminal)
-    (some : (a : A) × (m : List Mark) × L' a m)
-    (to : (a : A) (m : List Mark) (r : List Terminal) → L a m → peek (terms m ++ r) ≡ peek ts → L' a m) (stop : (a : A) (m : List Mark) (c : Terminal) → L a m → G a c → G' a c)
-    (pick : (a : A) (m : List Mark) (r : List Terminal) → L' a m → S' a (peek r) → peek (terms m ++ r) ≡ peek ts → L a m × S a (peek r)) where
-  stuck : (r : List Terminal) (w : List Mark) → ts ≡ terms w ++ r → Within limit w → ((a : A) × (m : List Mark) × (q : List Mark) × L a m × (m ≡ w ++ q))
-      → ((a' : A) (m : List Mark) (r' r'' : List Terminal) → peek r'' ≡ peek r → L a' m → S a' (peek r') → terms m ++ r' ≡ terms w ++ r'' → ⊥) → Stuck L' S' limit ts r
+    (some : (a : A) × (m : List Symbol) × L' a m)
+    (to : (a : A) (m : List Symbol) (r : List Terminal) → L a m → peek (terms m ++ r) ≡ peek ts → L' a m) (stop : (a : A) (m : List Symbol) (c : Terminal) → L a m → G a c → G' a c)
+    (pick : (a : A) (m : List Symbol) (r : List Terminal) → L' a m → S' a (peek r) → peek (terms m ++ r) ≡ peek ts → L a m × S a (peek r)) where
+  stuck : (r : List Terminal) (w : List Symbol) → ts ≡ terms w ++ r → Within limit w → ((a : A) × (m : List Symbol) × (q : List Symbol) × L a m × (m ≡ w ++ q))
+      → ((a' : A) (m : List Symbol) (r' r'' : List Terminal) → peek r'' ≡ peek r → L a' m → S a' (peek r') → terms m ++ r' ≡ terms w ++ r'' → ⊥) → Stuck L' S' limit ts r
   stuck r [] front within live dead = record {
     word = [];
     front = front;
@@ -32,11 +32,11 @@ module _ {A : Type 0} (L L' : Language A) (S S' G G' : Stops A) (limit : ℕ) (t
         dead a' m r' r'' same i.0 i.1 e;
   }
 
-  deep-head : (w : List Mark) (c : Terminal) (o : ℕ) (q : List Mark) (r r'' : List Terminal) → ts ≡ terms w ++ (c ∷ r) → peek (terms (w ++ (c, o) ∷ q) ++ r'') ≡ peek ts
+  deep-head : (w : List Symbol) (c : Terminal) (o : ℕ) (q : List Symbol) (r r'' : List Terminal) → ts ≡ terms w ++ (c ∷ r) → peek (terms (w ++ (c, o) ∷ q) ++ r'') ≡ peek ts
   deep-head [] c o q r r'' front = sym (ap peek front)
   deep-head (m0 ∷ w) c o q r r'' front = sym (ap peek front)
 
-  any-head : (w : List Mark) (r r'' : List Terminal) → ts ≡ terms w ++ r → peek r'' ≡ peek r → peek (terms w ++ r'') ≡ peek ts
+  any-head : (w : List Symbol) (r r'' : List Terminal) → ts ≡ terms w ++ r → peek r'' ≡ peek r → peek (terms w ++ r'') ≡ peek ts
   any-head [] r r'' front same = same ∙ sym (ap peek front)
   any-head (m0 ∷ w) r r'' front same = sym (ap peek front)
 

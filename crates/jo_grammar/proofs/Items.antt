@@ -5,7 +5,7 @@ use Rattle.jo_tree.specs.declared.keyword.Keyword.TheVariants as kw
 use Rattle.jo_grammar.specs.declared.terminal.Terminal.{Terminal}
 use Rattle.jo_grammar.specs.declared.terminal.Terminal.TheVariants as t
 use Rattle.jo_tree.specs.Trees.{Statement, Items, no_items, declare, perform}
-use Rattle.jo_grammar.specs.Expressions.{Mark, mark, word}
+use Rattle.jo_grammar.specs.Expressions.{Symbol, punct, word}
 use Rattle.jo_grammar.specs.Statements.{FitBindings, IsClosed, FitStatement, FitItems, bindings, declaration, statement, items}
 use Rattle.jo_grammar.specs.Refusals.{Language, terms}
 use Rattle.jo_grammar.specs.inner.Read.{Reader, peek, next}
@@ -28,14 +28,14 @@ abbrev pub FitItem : Bool → Item → Type 0
 FitItem loops (a_declaration bs) = FitBindings true true bs
 FitItem loops (a_statement s) = FitStatement loops s
 
-abbrev pub item_word : ℕ → Item → List Mark
+abbrev pub item_word : ℕ → Item → List Symbol
 item_word d (a_declaration bs) = declaration d bs
 item_word d (a_statement s) = statement d s
 
 abbrev pub item_language : Bool → ℕ → Language Item
 item_language loops d x m = FitItem loops x × (m ≡ item_word d x)
 
--- some item begins with the token
+-- some item begins with the terminal
 abbrev pub begins_item : Terminal → Bool
 begins_item (t.Keyword kw.Let) = true
 begins_item c = begins_statement c
@@ -44,18 +44,18 @@ statement-is-item : (c : Terminal) → begins_statement c ≡ true → begins_it
 statement-is-item (t.Keyword kw.Let) h = refl
 statement-is-item _ h = h
 
-item-begins : (loops : Bool) (d : ℕ) (x : Item) (m : List Mark) (r : List Terminal) → item_language loops d x m → begins_item (peek (terms m ++ r)) ≡ true
+item-begins : (loops : Bool) (d : ℕ) (x : Item) (m : List Symbol) (r : List Terminal) → item_language loops d x m → begins_item (peek (terms m ++ r)) ≡ true
 item-begins loops d (a_declaration bs) m r k = ap (λ v. begins_item (peek (terms v ++ r))) k.1
 item-begins loops d (a_statement s) m r k = ap (λ v. begins_item (peek (terms v ++ r))) k.1 ∙ statement-is-item (peek (terms (statement d s) ++ r)) (statement-begins loops d s r k.0)
 
-pub not-item : (c : Terminal) → begins_item c ≡ false → (loops : Bool) (d : ℕ) (x : Item) (m : List Mark) (r : List Terminal) → item_language loops d x m → peek (terms m ++ r) ≡ c → ⊥
+pub not-item : (c : Terminal) → begins_item c ≡ false → (loops : Bool) (d : ℕ) (x : Item) (m : List Symbol) (r : List Terminal) → item_language loops d x m → peek (terms m ++ r) ≡ c → ⊥
 not-item c h loops d x m r k g = let f : true ≡ false = sym (item-begins loops d x m r k) ∙ (ap begins_item g ∙ h) in cc
 
-begins-long : (m : List Mark) → begins_item (peek (terms m ++ [])) ≡ true → 1 ≤ length (terms m)
+begins-long : (m : List Symbol) → begins_item (peek (terms m ++ [])) ≡ true → 1 ≤ length (terms m)
 begins-long [] h = cc
 begins-long (a ∷ m) h = omega arith
 
-pub item-long : (loops : Bool) (d : ℕ) (x : Item) (m : List Mark) → item_language loops d x m → 1 ≤ length (terms m)
+pub item-long : (loops : Bool) (d : ℕ) (x : Item) (m : List Symbol) → item_language loops d x m → 1 ≤ length (terms m)
 item-long loops d x m k = begins-long m (item-begins loops d x m [] k)
 
 abbrev let_item : ℕ → Language Item
@@ -64,15 +64,15 @@ let_item d = bind (one (t.Keyword kw.Let) 0) (λ _. mapped a_declaration (a_let 
 abbrev statement_item : Bool → ℕ → Language Item
 statement_item loops d = mapped a_statement (statement_language loops d)
 
-let-to : (loops : Bool) (d : ℕ) (x : Item) (m : List Mark) → let_item d x m → item_language loops d x m
+let-to : (loops : Bool) (d : ℕ) (x : Item) (m : List Symbol) → let_item d x m → item_language loops d x m
 let-to loops d x m (u, y, z, l, (bs, k, same), w) = (subst (λ v. FitItem loops v) (sym same) k.0, w ∙ join l k.1 ∙ ap (λ v. item_word d v) (sym same))
 
-statement-to : (loops : Bool) (d : ℕ) (x : Item) (m : List Mark) → statement_item loops d x m → item_language loops d x m
+statement-to : (loops : Bool) (d : ℕ) (x : Item) (m : List Symbol) → statement_item loops d x m → item_language loops d x m
 statement-to loops d x m (s, k, same) = (subst (λ v. FitItem loops v) (sym same) k.0, k.1 ∙ ap (λ v. item_word d v) (sym same))
 
-item-split : (loops : Bool) (d : ℕ) (x : Item) (m : List Mark) (r : List Terminal) → item_language loops d x m
+item-split : (loops : Bool) (d : ℕ) (x : Item) (m : List Symbol) (r : List Terminal) → item_language loops d x m
     → ((peek (terms m ++ r) ≡ t.Keyword kw.Let) × let_item d x m) ⊎ ((peek (terms m ++ r) ≡ t.Keyword kw.Let → ⊥) × statement_item loops d x m)
-item-split loops d (a_declaration bs) m r k = inl (ap (λ z. peek (terms z ++ r)) k.1, (tt, word kw.Let ∷ [], bindings d bs ++ mark p.Semicolon ∷ [], refl, (bs, (k.0, refl), refl), k.1))
+item-split loops d (a_declaration bs) m r k = inl (ap (λ z. peek (terms z ++ r)) k.1, (tt, word kw.Let ∷ [], bindings d bs ++ punct p.Semicolon ∷ [], refl, (bs, (k.0, refl), refl), k.1))
 item-split loops d (a_statement s) m r k = inr (λ h. not-statement (t.Keyword kw.Let) refl loops d s m r k h, (s, k, refl))
 
 -- ---- items
@@ -107,13 +107,13 @@ items-cons d (a_declaration bs) is = refl
 items-cons d (a_statement s) is = refl
 
 -- the rest of some items of which these were read, and what ends them
-abbrev pub items_end : Bool → ℕ → List Mark → Items → Language Items
+abbrev pub items_end : Bool → ℕ → List Symbol → Items → Language Items
 items_end loops d end found v m = (is : Items) × FitItems loops is × (v ≡ items_both found is) × (m ≡ items d is ++ end)
 
-abbrev pub an_item : Bool → ℕ → List Mark → Items → Language Items
+abbrev pub an_item : Bool → ℕ → List Symbol → Items → Language Items
 an_item loops d end found = bind (item_language loops d) (λ x. items_end loops d end (with_item found x))
 
-pub item-to : (loops : Bool) (d : ℕ) (end : List Mark) (found v : Items) (m : List Mark) → an_item loops d end found v m → items_end loops d end found v m
+pub item-to : (loops : Bool) (d : ℕ) (end : List Symbol) (found v : Items) (m : List Symbol) → an_item loops d end found v m → items_end loops d end found v m
 item-to loops d end found v m (x, y, z, l, (is, f, g, w), e) = (
   cons_item x is,
   fit-cons loops x is l.0 f,
@@ -122,7 +122,7 @@ item-to loops d end found v m (x, y, z, l, (is, f, g, w), e) = (
 )
 
 -- one item at the front
-item-front : (loops : Bool) (d : ℕ) (end : List Mark) (found : Items) (x : Item) (is : Items) (v : Items) (m : List Mark) → FitItem loops x → FitItems loops is → v ≡ items_both found (cons_item x is)
+item-front : (loops : Bool) (d : ℕ) (end : List Symbol) (found : Items) (x : Item) (is : Items) (v : Items) (m : List Symbol) → FitItem loops x → FitItems loops is → v ≡ items_both found (cons_item x is)
     → m ≡ (item_word d x ++ items d is) ++ end → an_item loops d end found v m
 item-front loops d end found x is v m f g same e = (
   x,
@@ -134,41 +134,41 @@ item-front loops d end found x is v m f g same e = (
 )
 
 -- no item, or one at the front
-pub items-split : (loops : Bool) (d : ℕ) (end : List Mark) (found v : Items) (m : List Mark) → items_end loops d end found v m → ((v ≡ found) × (m ≡ end)) ⊎ an_item loops d end found v m
+pub items-split : (loops : Bool) (d : ℕ) (end : List Symbol) (found v : Items) (m : List Symbol) → items_end loops d end found v m → ((v ≡ found) × (m ≡ end)) ⊎ an_item loops d end found v m
 items-split loops d end found v m (no_items, f, g, e) = inl (g ∙ items_both-none found, e)
 items-split loops d end found v m (declare bs is, f, g, e) = inr (item-front loops d end found (a_declaration bs) is v m f.0 f.1 g e)
 items-split loops d end found v m (perform s is, f, g, e) = inr (item-front loops d end found (a_statement s) is v m f.0 f.1 g e)
 
-pub item-not-first : (c : Terminal) → begins_item c ≡ false → (loops : Bool) (d : ℕ) (end : List Mark) (found v : Items) (m : List Mark) (r : List Terminal) → an_item loops d end found v m → peek (terms m ++ r) ≡ c → ⊥
+pub item-not-first : (c : Terminal) → begins_item c ≡ false → (loops : Bool) (d : ℕ) (end : List Symbol) (found v : Items) (m : List Symbol) (r : List Terminal) → an_item loops d end found v m → peek (terms m ++ r) ≡ c → ⊥
 item-not-first c h loops d end found v m r k g =
     not-item c h loops d k.0 k.1 (terms k.2 ++ r) k.3 (ap peek (sym (terms-split k.1 k.2 r)) ∙ (ap (λ z. peek (terms z ++ r)) (sym k.5) ∙ g))
 
 -- ---- up to a closing brace
 
-abbrev pub brace : List Mark
-brace = mark p.CloseBrace ∷ []
+abbrev pub brace : List Symbol
+brace = punct p.CloseBrace ∷ []
 
 abbrev a_brace : Items → Language Items
 a_brace found = bind (one (t.Punct p.CloseBrace) 0) (λ _. nothing found)
 
-brace-to : (loops : Bool) (d : ℕ) (found v : Items) (m : List Mark) → a_brace found v m → items_end loops d brace found v m
+brace-to : (loops : Bool) (d : ℕ) (found v : Items) (m : List Symbol) → a_brace found v m → items_end loops d brace found v m
 brace-to loops d found v m k = (no_items, tt, k.4.0 ∙ sym (items_both-none found), k.5 ∙ join k.3 k.4.1)
 
-brace-split : (loops : Bool) (d : ℕ) (found v : Items) (m : List Mark) (r : List Terminal) → items_end loops d brace found v m
+brace-split : (loops : Bool) (d : ℕ) (found v : Items) (m : List Symbol) (r : List Terminal) → items_end loops d brace found v m
     → ((peek (terms m ++ r) ≡ t.Punct p.CloseBrace) × a_brace found v m) ⊎ ((peek (terms m ++ r) ≡ t.Punct p.CloseBrace → ⊥) × an_item loops d brace found v m)
 brace-split loops d found v m r k = elim (items-split loops d brace found v m k) [
   | inl q ↦ inl (ap (λ z. peek (terms z ++ r)) q.1, (tt, brace, [], refl, (q.0, refl), q.1))
   | inr q ↦ inr (λ h. item-not-first (t.Punct p.CloseBrace) refl loops d brace found v m r q h, q)
 ]
 
--- no `else` follows an item, and the tokens do not end there
-brace-first : (c : Terminal) → begins_item c ≡ false → c ≢ t.Punct p.CloseBrace → (loops : Bool) (d : ℕ) (found v : Items) (m : List Mark) (r : List Terminal) → items_end loops d brace found v m → peek (terms m ++ r) ≡ c → ⊥
+-- no `else` follows an item, and the terminals do not end there
+brace-first : (c : Terminal) → begins_item c ≡ false → c ≢ t.Punct p.CloseBrace → (loops : Bool) (d : ℕ) (found v : Items) (m : List Symbol) (r : List Terminal) → items_end loops d brace found v m → peek (terms m ++ r) ≡ c → ⊥
 brace-first c h other loops d found v m r k g = elim (items-split loops d brace found v m k) [
   | inl q ↦ other (sym g ∙ ap (λ z. peek (terms z ++ r)) q.1)
   | inr q ↦ item-not-first c h loops d brace found v m r q g
 ]
 
-pub some_items : (loops : Bool) (d : ℕ) (end : List Mark) (found : Items) → (v : Items) × (m : List Mark) × items_end loops d end found v m
+pub some_items : (loops : Bool) (d : ℕ) (end : List Symbol) (found : Items) → (v : Items) × (m : List Symbol) × items_end loops d end found v m
 some_items loops d end found = (found, end, (no_items, tt, sym (items_both-none found), refl))
 
 pub open-item : (x : Item) (c : Terminal) → (c ≡ t.Keyword kw.Else → ⊥) → OpenItem x c

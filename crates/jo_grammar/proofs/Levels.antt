@@ -10,7 +10,7 @@ use Rattle.jo_grammar.specs.declared.terminal.Terminal.{Terminal}
 use Rattle.jo_grammar.specs.declared.terminal.Terminal.TheVariants as t
 use Rattle.jo_tree.specs.Trees.{Tree, number, literal, constant, variable, group, object, cas, member, unary, delete, chain, choose, assign, Links, no_links, link}
 use Rattle.jo_grammar.specs.Operators.{level_of}
-use Rattle.jo_grammar.specs.Expressions.{Mark, word, IsMember, Fits, FitLinks, spelling, accesses, links, first}
+use Rattle.jo_grammar.specs.Expressions.{Symbol, word, IsMember, MayStand, FitLinks, spelling, accesses, links, first}
 use Rattle.jo_grammar.specs.Refusals.{Language, terms}
 use Rattle.jo_grammar.specs.inner.Read.{Reading, Reader, and_then, peek, next, code, expect, punct_rank, rank, Below}
 use Rattle.jo_grammar.proofs.Outcome.{Stops, Outcome, bind, outcome-bind, outcome-choose, outcome-same, Any, one, outcome-expect, mapped, outcome-map, first-of, some-after, terms-split}
@@ -19,13 +19,13 @@ use Rattle.jo_grammar.proofs.Outcome.{Stops, Outcome, bind, outcome-bind, outcom
 
 -- the expressions of a level, where d constructs are open; the flag says whether `in` may stand outside brackets
 abbrev pub at : Bool → ℕ → ℕ → Language Tree
-at ins l d e m = Fits ins l e × (m ≡ spelling d e)
+at ins l d e m = MayStand ins l e × (m ≡ spelling d e)
 
 -- those of them that are read where a level is asked for: at 10 properties alone
 abbrev pub level_language : Bool → ℕ → ℕ → Language Tree
 level_language ins l d e m = (l ≡ 10 → IsMember e) × at ins l d e m
 
--- the tokens that no expression of the level goes on with
+-- the terminals that no expression of the level goes on with
 abbrev pub Above : {A : Type 0} → Bool → ℕ → Stops A
 Above ins l a c = rank ins c < l
 
@@ -38,7 +38,7 @@ abbrev pub ReadsAt : ℕ → ℕ → Below → Type 0
 ReadsAt limit d below =
     (ins : Bool) (l : ℕ) → IsLevel l → (ts : List Terminal) → Outcome (level_language ins l d) (Above ins l) Any limit ts (below ins l ts)
 
-pub some_tree : (ins : Bool) (l d : ℕ) → (e : Tree) × (m : List Mark) × at ins l d e m
+pub some_tree : (ins : Bool) (l d : ℕ) → (e : Tree) × (m : List Symbol) × at ins l d e m
 some_tree ins l d = (constant kw.True, word kw.True ∷ [], (refl, refl))
 
 -- at another level than 10
@@ -53,29 +53,29 @@ pub outcome-below : (limit d : ℕ) (below : Below) → ReadsAt limit d below �
 outcome-below limit d below ih ins l (inl e) ts = outcome-at ins l d limit ts (below ins l ts) (λ f. omega arith) (ih ins l (inl e) ts)
 outcome-below limit d below ih ins l (inr h) ts = outcome-at ins l d limit ts (below ins l ts) (λ f. omega (arith, h.1)) (ih ins l (inr (h.0, omega (arith, h.1))) ts)
 
--- a rule that lets no token follow too many
+-- a rule that lets no terminal follow too many
 pub outcome-weaken : {A : Type 0} (L : Language A) (S : Stops A) (limit : ℕ) (ts : List Terminal) (res : Reading A) → Outcome L Any Any limit ts res → Outcome L S Any limit ts res
 outcome-weaken L S limit ts res h = outcome-choose L L Any S Any Any limit ts (λ _ _ k. k) (λ _ _ _ _ _. tt) (λ _ _ _ k _ _. (k, tt)) res h
 
 -- ---- lists
 
-pub nil-right : (x : List Mark) → x ++ [] ≡ x
+pub nil-right : (x : List Symbol) → x ++ [] ≡ x
 nil-right [] = refl
 nil-right (m ∷ x) = ap (λ v. m ∷ v) (nil-right x)
 
--- what stands after some tokens is no longer
-pub not-longer : (ts r : List Terminal) (x : List Mark) → ts ≡ terms x ++ r → length r ≤ length ts
+-- what stands after some terminals is no longer
+pub not-longer : (ts r : List Terminal) (x : List Symbol) → ts ≡ terms x ++ r → length r ≤ length ts
 not-longer ts r x f = let a : length ts ≡ length (terms x) + length r = ap length f ∙ length-append (terms x) r in omega arith
 
--- and after a token it is shorter
-pub bind-shorter : {B : Type 0} (c : Terminal) (o : ℕ) (K : Language B) (b : B) (ts r : List Terminal) (y : List Mark) → bind (one c o) (λ _. K) b y → ts ≡ terms y ++ r → length r < length ts
+-- and after a terminal it is shorter
+pub bind-shorter : {B : Type 0} (c : Terminal) (o : ℕ) (K : Language B) (b : B) (ts r : List Terminal) (y : List Symbol) → bind (one c o) (λ _. K) b y → ts ≡ terms y ++ r → length r < length ts
 bind-shorter c o K b ts r y k f =
     let e : y ≡ (c, o) ∷ k.2 = k.5 ∙ ap (λ v. v ++ k.2) k.3 in
     let a : length ts ≡ suc (length (terms k.2 ++ r)) = ap length (f ∙ ap (λ v. terms v ++ r) e) in
     let b : length (terms k.2 ++ r) ≡ length (terms k.2) + length r = length-append (terms k.2) r in
     omega arith
 
-pub shorter : (c : Terminal) (ts r r' : List Terminal) (x x' : List Mark) → ts ≡ terms x ++ r → x' ≡ (c, 0) ∷ [] → r ≡ terms x' ++ r' → length r' < length ts
+pub shorter : (c : Terminal) (ts r r' : List Terminal) (x x' : List Symbol) → ts ≡ terms x ++ r → x' ≡ (c, 0) ∷ [] → r ≡ terms x' ++ r' → length r' < length ts
 shorter c ts r r' x x' f l g =
     let a : length ts ≡ length (terms x) + length r = ap length f ∙ length-append (terms x) r in
     let b : length r ≡ length (c ∷ r') = ap length g ∙ ap (λ v. length (terms v ++ r')) l in
@@ -140,45 +140,45 @@ links-level ins k (link o e ls) h = subst (λ v. (3 ≤ v) × (v ≤ 8)) h.0 (le
 -- ---- trees
 
 -- what fits a level fits those before it
-pub Fits-lower : (ins : Bool) (l l' : ℕ) (e : Tree) → l ≤ l' → Fits ins l' e → Fits ins l e
-Fits-lower ins l l' (number i) h f = tt
-Fits-lower ins l l' (literal s) h f = tt
-Fits-lower ins l l' (constant w) h f = f
-Fits-lower ins l l' (variable x) h f = tt
-Fits-lower ins l l' (group e) h f = f
-Fits-lower ins l l' (object ps comma) h f = f
-Fits-lower ins l l' (cas o k a b) h f = f
-Fits-lower ins l l' (member e xs) h f = (omega arith, f.1, f.2)
-Fits-lower ins l l' (unary o e) h f = (omega arith, f.1)
-Fits-lower ins l l' (delete e) h f = (omega arith, f.1, f.2)
-Fits-lower ins l l' (chain k e ls) h f = (omega arith, f.1, f.2)
-Fits-lower ins l l' (choose a b c) h f = (omega arith, f.1, f.2, f.3)
-Fits-lower ins l l' (assign o a b) h f = (omega arith, f.1, f.2, f.3)
+pub MayStand-lower : (ins : Bool) (l l' : ℕ) (e : Tree) → l ≤ l' → MayStand ins l' e → MayStand ins l e
+MayStand-lower ins l l' (number i) h f = tt
+MayStand-lower ins l l' (literal s) h f = tt
+MayStand-lower ins l l' (constant w) h f = f
+MayStand-lower ins l l' (variable x) h f = tt
+MayStand-lower ins l l' (group e) h f = f
+MayStand-lower ins l l' (object ps comma) h f = f
+MayStand-lower ins l l' (cas o k a b) h f = f
+MayStand-lower ins l l' (member e xs) h f = (omega arith, f.1, f.2)
+MayStand-lower ins l l' (unary o e) h f = (omega arith, f.1)
+MayStand-lower ins l l' (delete e) h f = (omega arith, f.1, f.2)
+MayStand-lower ins l l' (chain k e ls) h f = (omega arith, f.1, f.2)
+MayStand-lower ins l l' (choose a b c) h f = (omega arith, f.1, f.2, f.3)
+MayStand-lower ins l l' (assign o a b) h f = (omega arith, f.1, f.2, f.3)
 
 -- from 9 on the flag does not matter
-pub Fits-flag : (ins ins' : Bool) (l : ℕ) (e : Tree) → 9 ≤ l → Fits ins l e → Fits ins' l e
-Fits-flag ins ins' l (number i) h f = tt
-Fits-flag ins ins' l (literal s) h f = tt
-Fits-flag ins ins' l (constant w) h f = f
-Fits-flag ins ins' l (variable x) h f = tt
-Fits-flag ins ins' l (group e) h f = f
-Fits-flag ins ins' l (object ps comma) h f = f
-Fits-flag ins ins' l (cas o k a b) h f = f
-Fits-flag ins ins' l (member e xs) h f = (f.0, Fits-flag ins ins' 11 e (omega arith) f.1, f.2)
-Fits-flag ins ins' l (unary o e) h f = (f.0, Fits-flag ins ins' 9 e (omega arith) f.1)
-Fits-flag ins ins' l (delete e) h f = (f.0, f.1, Fits-flag ins ins' 10 e (omega arith) f.2)
-Fits-flag ins ins' l (chain k e ls) h f = let g = links-level ins k ls f.2 in absurd (omega (arith, f.0, g.1))
-Fits-flag ins ins' l (choose a b c) h f = absurd (omega (arith, f.0))
-Fits-flag ins ins' l (assign o a b) h f = absurd (omega (arith, f.0))
+pub MayStand-flag : (ins ins' : Bool) (l : ℕ) (e : Tree) → 9 ≤ l → MayStand ins l e → MayStand ins' l e
+MayStand-flag ins ins' l (number i) h f = tt
+MayStand-flag ins ins' l (literal s) h f = tt
+MayStand-flag ins ins' l (constant w) h f = f
+MayStand-flag ins ins' l (variable x) h f = tt
+MayStand-flag ins ins' l (group e) h f = f
+MayStand-flag ins ins' l (object ps comma) h f = f
+MayStand-flag ins ins' l (cas o k a b) h f = f
+MayStand-flag ins ins' l (member e xs) h f = (f.0, MayStand-flag ins ins' 11 e (omega arith) f.1, f.2)
+MayStand-flag ins ins' l (unary o e) h f = (f.0, MayStand-flag ins ins' 9 e (omega arith) f.1)
+MayStand-flag ins ins' l (delete e) h f = (f.0, f.1, MayStand-flag ins ins' 10 e (omega arith) f.2)
+MayStand-flag ins ins' l (chain k e ls) h f = let g = links-level ins k ls f.2 in absurd (omega (arith, f.0, g.1))
+MayStand-flag ins ins' l (choose a b c) h f = absurd (omega (arith, f.0))
+MayStand-flag ins ins' l (assign o a b) h f = absurd (omega (arith, f.0))
 
-pub at-lower : (ins : Bool) (l l' d : ℕ) (e : Tree) (m : List Mark) → l ≤ l' → at ins l' d e m → at ins l d e m
-at-lower ins l l' d e m h k = (Fits-lower ins l l' e h k.0, k.1)
+pub at-lower : (ins : Bool) (l l' d : ℕ) (e : Tree) (m : List Symbol) → l ≤ l' → at ins l' d e m → at ins l d e m
+at-lower ins l l' d e m h k = (MayStand-lower ins l l' e h k.0, k.1)
 
-pub at-flag : (ins ins' : Bool) (l d : ℕ) (e : Tree) (m : List Mark) → 9 ≤ l → at ins l d e m → at ins' l d e m
-at-flag ins ins' l d e m h k = (Fits-flag ins ins' l e h k.0, k.1)
+pub at-flag : (ins ins' : Bool) (l d : ℕ) (e : Tree) (m : List Symbol) → 9 ≤ l → at ins l d e m → at ins' l d e m
+at-flag ins ins' l d e m h k = (MayStand-flag ins ins' l e h k.0, k.1)
 
--- the token that stands first
-first-then : (x y : List Mark) (r : List Terminal) (c : Terminal) → ((r : List Terminal) → peek (terms x ++ r) ≡ c) → peek (terms (x ++ y) ++ r) ≡ c
+-- the terminal that stands first
+first-then : (x y : List Symbol) (r : List Terminal) (c : Terminal) → ((r : List Terminal) → peek (terms x ++ r) ≡ c) → peek (terms (x ++ y) ++ r) ≡ c
 first-then x y r c h = ap peek (terms-split x y r) ∙ h (terms y ++ r)
 
 pub first-is : (d : ℕ) (e : Tree) (r : List Terminal) → peek (terms (spelling d e) ++ r) ≡ first e
@@ -196,17 +196,17 @@ first-is d (chain k e ls) r = first-then (spelling d e) (links d ls) r (first e)
 first-is d (choose a b c) r = first-then (spelling d a) _ r (first a) (λ r. first-is d a r)
 first-is d (assign o a b) r = first-then (spelling d a) _ r (first a) (λ r. first-is d a r)
 
-pub first-at : (ins : Bool) (l d : ℕ) (e : Tree) (m : List Mark) (r : List Terminal) → at ins l d e m → peek (terms m ++ r) ≡ first e
+pub first-at : (ins : Bool) (l d : ℕ) (e : Tree) (m : List Symbol) (r : List Terminal) → at ins l d e m → peek (terms m ++ r) ≡ first e
 first-at ins l d e m r k = ap (λ v. peek (terms v ++ r)) k.1 ∙ first-is d e r
 
--- ---- an expression, a token, and a value of the expression
+-- ---- an expression, a terminal, and a value of the expression
 
 abbrev pub closed_by : {A : Type 0} → Bool → ℕ → Terminal → (Tree → Language A) → Language A
 closed_by ins d c K = bind (at ins 1 d) (λ e. bind (one c 0) (λ _. K e))
 
 module _ (limit d : ℕ) (below : Below) (ih : ReadsAt limit d below) (ins : Bool) where
   pub outcome-closed : {A : Type 0} (c : Terminal) (K : Tree → Language A) (S G : Stops A) → 5 ≤ code c → rank ins c ≡ 0
-      → ((e : Tree) → (a : A) × (m : List Mark) × K e a m) → (f : Tree → Reader A) → (ts : List Terminal)
+      → ((e : Tree) → (a : A) × (m : List Symbol) × K e a m) → (f : Tree → Reader A) → (ts : List Terminal)
       → ((e : Tree) (r : List Terminal) → (length r < length ts) → Outcome (K e) S G limit r (f e r))
       → Outcome (closed_by ins d c K) S G limit ts (and_then (below ins 1 ts) (λ e r. and_then (expect c r) (λ _ r. f e r)))
   outcome-closed c K S G h flat some f ts more =

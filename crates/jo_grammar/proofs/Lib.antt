@@ -34,7 +34,7 @@ pub mod ReadOnce
 pub mod SpelledOnce
 pub mod SetStages
 pub mod OneAnswer
-pub mod GoodMarks
+pub mod GoodSymbols
 pub mod SpelledLengths
 pub mod SpelledTrees
 pub mod SectionsInInput

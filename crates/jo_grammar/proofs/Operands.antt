@@ -11,11 +11,11 @@ use Rattle.jo_grammar.specs.declared.terminal.Terminal.TheVariants as t
 use Rattle.jo_tree.specs.declared.word.Name.{Name}
 use Rattle.jo_tree.specs.Trees.{Tree, number, literal, constant, variable, group, object, cas, member, unary, delete, chain, choose, assign, Accesses, no_accesses, field, index}
 use Rattle.jo_grammar.specs.Operators.{unary_token, name_token, is_constant}
-use Rattle.jo_grammar.specs.Expressions.{Mark, plain, mark, word, IsMember, Fits, FitAccesses, comma_at_end, spelling, props, accesses, first}
+use Rattle.jo_grammar.specs.Expressions.{Symbol, plain, punct, word, IsMember, MayStand, FitAccesses, comma_at_end, spelling, props, accesses, first}
 use Rattle.jo_grammar.specs.Refusals.{Language, terms, unexpected, too_deep}
 use Rattle.jo_grammar.specs.inner.Read.{Reading, Reader, and_then, peek, next, code, sees, open_at, name, rank, is_sign, sign_of, with_field, with_index, Below, cas_after, keyword_at, bracket_at, primary_at, primary, index_at, accesses_from, member_of, postfix, is_member, only_member, prefixed}
 use Rattle.jo_grammar.proofs.Outcome.{Stops, Whole, Outcome, bind, outcome-bind, outcome-choose, Any, nothing, outcome-pure, one, outcome-fail, outcome-branch, outcome-same, mapped, outcome-map, outcome-if, join, peek-cons, first-of, some-after, outcome-sees, opened-after, plain-after, outcome-enter, a_name, some_name, outcome-name}
-use Rattle.jo_grammar.proofs.Levels.{at, level_language, Above, ReadsAt, some_tree, outcome-below, outcome-weaken, nil-right, not-longer, bind-shorter, rank-small, rank-flag, links-level, Fits-lower, Fits-flag, at-lower, first-at}
+use Rattle.jo_grammar.proofs.Levels.{at, level_language, Above, ReadsAt, some_tree, outcome-below, outcome-weaken, nil-right, not-longer, bind-shorter, rank-small, rank-flag, links-level, MayStand-lower, MayStand-flag, at-lower, first-at}
 use Rattle.jo_grammar.proofs.Bracketed.{an_ended, some_ended, a_group, some_group, a_cas, some_cas, an_object, some_object, outcome-ended, outcome-group, outcome-cas, outcome-object}
 
 -- ---- primary expressions
@@ -35,7 +35,7 @@ cas_bracket d = bind (one (t.Punct p.OpenParen) (d + 1)) (λ _. a_cas (d + 1))
 abbrev whole_cas : ℕ → Language Tree
 whole_cas d = bind (one (t.Keyword kw.Cas) 0) (λ _. cas_bracket d)
 
--- the primary expressions that begin with a keyword, a bracket or any token
+-- the primary expressions that begin with a keyword, a bracket or any terminal
 abbrev keyword_branch : ℕ → Keyword → Language Tree
 keyword_branch d w v m = ((is_constant w ≡ true) × a_leaf (constant w) (t.Keyword w) v m) ⊎ ((w ≡ kw.Cas) × whole_cas d v m)
 
@@ -52,46 +52,46 @@ primary_branch d (t.Keyword w) v m = keyword_branch d w v m
 primary_branch d (t.Punct c) v m = bracket_branch d c v m
 primary_branch d _ v m = ⊥
 
-ended-join : (x : List Mark) (c : Punct) {y y' : List Mark} → y ≡ y' → (x ++ mark c ∷ []) ++ y ≡ x ++ mark c ∷ y'
-ended-join x c {y} {y'} e = append_assoc x (mark c ∷ []) y ∙ ap (λ v. x ++ mark c ∷ v) e
+ended-join : (x : List Symbol) (c : Punct) {y y' : List Symbol} → y ≡ y' → (x ++ punct c ∷ []) ++ y ≡ x ++ punct c ∷ y'
+ended-join x c {y} {y'} e = append_assoc x (punct c ∷ []) y ∙ ap (λ v. x ++ punct c ∷ v) e
 
-abbrev cas_tokens : ℕ → Tree → Tree → Tree → Tree → List Mark
-cas_tokens d o k a b = spelling d o ++ mark p.Comma ∷ (spelling d k ++ mark p.Comma ∷ (spelling d a ++ mark p.Comma ∷ (spelling d b ++ mark p.CloseParen ∷ [])))
+abbrev cas_tokens : ℕ → Tree → Tree → Tree → Tree → List Symbol
+cas_tokens d o k a b = spelling d o ++ punct p.Comma ∷ (spelling d k ++ punct p.Comma ∷ (spelling d a ++ punct p.Comma ∷ (spelling d b ++ punct p.CloseParen ∷ [])))
 
-cas-from : (d : ℕ) (o k a b : Tree) → Fits true 1 o × Fits true 1 k × Fits true 1 a × Fits true 1 b → a_cas d (cas o k a b) (cas_tokens d o k a b)
+cas-from : (d : ℕ) (o k a b : Tree) → MayStand true 1 o × MayStand true 1 k × MayStand true 1 a × MayStand true 1 b → a_cas d (cas o k a b) (cas_tokens d o k a b)
 cas-from d o k a b f =
-    let fourth = spelling d b ++ mark p.CloseParen ∷ [] in
-    let third = spelling d a ++ mark p.Comma ∷ fourth in
-    let second = spelling d k ++ mark p.Comma ∷ third in (
+    let fourth = spelling d b ++ punct p.CloseParen ∷ [] in
+    let third = spelling d a ++ punct p.Comma ∷ fourth in
+    let second = spelling d k ++ punct p.Comma ∷ third in (
       o,
-      spelling d o ++ mark p.Comma ∷ [],
+      spelling d o ++ punct p.Comma ∷ [],
       second,
       (f.0, refl),
       (
         k,
-        spelling d k ++ mark p.Comma ∷ [],
+        spelling d k ++ punct p.Comma ∷ [],
         third,
         (f.1, refl),
-        (a, spelling d a ++ mark p.Comma ∷ [], fourth, (f.2, refl), (b, (f.3, refl), refl), sym (ended-join (spelling d a) p.Comma refl)),
+        (a, spelling d a ++ punct p.Comma ∷ [], fourth, (f.2, refl), (b, (f.3, refl), refl), sym (ended-join (spelling d a) p.Comma refl)),
         sym (ended-join (spelling d k) p.Comma refl),
       ),
       sym (ended-join (spelling d o) p.Comma refl),
     )
 
-cas-to : (ins : Bool) (d : ℕ) (v : Tree) (m : List Mark) → whole_cas d v m → at ins 11 d v m
+cas-to : (ins : Bool) (d : ℕ) (v : Tree) (m : List Symbol) → whole_cas d v m → at ins 11 d v m
 cas-to ins d v m (u, x, y, l, (u', x', y', l', (o, x1, y1, e1, (k, x2, y2, e2, (a, x3, y3, e3, (b, e4, same), w3), w2), w1), w'), w) = (
-  subst (λ z. Fits ins 11 z) (sym same) (e1.0, e2.0, e3.0, e4.0),
+  subst (λ z. MayStand ins 11 z) (sym same) (e1.0, e2.0, e3.0, e4.0),
   w ∙ join l (w' ∙ join l' (w1 ∙ join e1.1 (w2 ∙ join e2.1 (w3 ∙ join e3.1 e4.1)) ∙ ended-join (spelling (d + 1) o) p.Comma (ended-join (spelling (d + 1) k) p.Comma (ended-join (spelling (d + 1) a) p.Comma refl))))
       ∙ ap (λ z. spelling d z) (sym same),
 )
 
-primary-here : (ins : Bool) (d : ℕ) (v : Tree) (r : List Terminal) → Fits ins 11 v → primary_branch d (peek (terms (spelling d v) ++ r)) v (spelling d v)
+primary-here : (ins : Bool) (d : ℕ) (v : Tree) (r : List Terminal) → MayStand ins 11 v → primary_branch d (peek (terms (spelling d v) ++ r)) v (spelling d v)
 primary-here ins d (number i) r f = (refl, refl)
 primary-here ins d (literal s) r f = (refl, refl)
 primary-here ins d (constant w) r f = inl (f, (refl, refl))
 primary-here ins d (variable x) r f = (refl, refl)
-primary-here ins d (group e) r f = (tt, (t.Punct p.OpenParen, d + 1) ∷ [], spelling (d + 1) e ++ mark p.CloseParen ∷ [], refl, (e, (f, refl), refl), refl)
-primary-here ins d (object ps comma) r f = (tt, (t.Punct p.OpenBrace, d + 1) ∷ [], props (d + 1) ps ++ (comma_at_end comma ++ mark p.CloseBrace ∷ []), refl, (ps, comma, f, refl, refl), refl)
+primary-here ins d (group e) r f = (tt, (t.Punct p.OpenParen, d + 1) ∷ [], spelling (d + 1) e ++ punct p.CloseParen ∷ [], refl, (e, (f, refl), refl), refl)
+primary-here ins d (object ps comma) r f = (tt, (t.Punct p.OpenBrace, d + 1) ∷ [], props (d + 1) ps ++ (comma_at_end comma ++ punct p.CloseBrace ∷ []), refl, (ps, comma, f, refl, refl), refl)
 primary-here ins d (cas o k a b) r f =
     inr (refl, (tt, word kw.Cas ∷ [], (t.Punct p.OpenParen, d + 1) ∷ cas_tokens (d + 1) o k a b, refl, (tt, (t.Punct p.OpenParen, d + 1) ∷ [], cas_tokens (d + 1) o k a b, refl, cas-from (d + 1) o k a b f, refl), refl))
 primary-here ins d (member e xs) r f = absurd (omega (arith, f.0))
@@ -101,21 +101,21 @@ primary-here ins d (chain k e ls) r f = let h = links-level ins k ls f.2 in absu
 primary-here ins d (choose a b c) r f = absurd (omega (arith, f.0))
 primary-here ins d (assign o a b) r f = absurd (omega (arith, f.0))
 
-primary-split : (ins : Bool) (d : ℕ) (v : Tree) (m : List Mark) (r : List Terminal) → at ins 11 d v m → primary_branch d (peek (terms m ++ r)) v m
+primary-split : (ins : Bool) (d : ℕ) (v : Tree) (m : List Symbol) (r : List Terminal) → at ins 11 d v m → primary_branch d (peek (terms m ++ r)) v m
 primary-split ins d v m r k = subst (λ w. primary_branch d (peek (terms w ++ r)) v w) (sym k.1) (primary-here ins d v r k.0)
 
-constant-to : (ins : Bool) (d : ℕ) (w : Keyword) (v : Tree) (m : List Mark) → is_constant w ≡ true → a_leaf (constant w) (t.Keyword w) v m → at ins 11 d v m
-constant-to ins d w v m h k = (subst (λ z. Fits ins 11 z) (sym k.0) h, k.1 ∙ ap (λ z. spelling d z) (sym k.0))
+constant-to : (ins : Bool) (d : ℕ) (w : Keyword) (v : Tree) (m : List Symbol) → is_constant w ≡ true → a_leaf (constant w) (t.Keyword w) v m → at ins 11 d v m
+constant-to ins d w v m h k = (subst (λ z. MayStand ins 11 z) (sym k.0) h, k.1 ∙ ap (λ z. spelling d z) (sym k.0))
 
-bracket-to : (ins : Bool) (d : ℕ) (c : Punct) (v : Tree) (m : List Mark) → bracket_branch d c v m → at ins 11 d v m
-bracket-to ins d p.OpenParen v m (u, x, y, l, (e, k, same), f) = (subst (λ z. Fits ins 11 z) (sym same) k.0, f ∙ join l k.1 ∙ ap (λ z. spelling d z) (sym same))
-bracket-to ins d p.OpenBrace v m (u, x, y, l, (ps, comma, k, same, e), f) = (subst (λ z. Fits ins 11 z) (sym same) k, f ∙ join l e ∙ ap (λ z. spelling d z) (sym same))
+bracket-to : (ins : Bool) (d : ℕ) (c : Punct) (v : Tree) (m : List Symbol) → bracket_branch d c v m → at ins 11 d v m
+bracket-to ins d p.OpenParen v m (u, x, y, l, (e, k, same), f) = (subst (λ z. MayStand ins 11 z) (sym same) k.0, f ∙ join l k.1 ∙ ap (λ z. spelling d z) (sym same))
+bracket-to ins d p.OpenBrace v m (u, x, y, l, (ps, comma, k, same, e), f) = (subst (λ z. MayStand ins 11 z) (sym same) k, f ∙ join l e ∙ ap (λ z. spelling d z) (sym same))
 bracket-to ins d _ v m k = absurd k
 
-primary-to : (ins : Bool) (d : ℕ) (c : Terminal) (v : Tree) (m : List Mark) → primary_branch d c v m → at ins 11 d v m
-primary-to ins d (t.Number i) v m k = (subst (λ z. Fits ins 11 z) (sym k.0) tt, k.1 ∙ ap (λ z. spelling d z) (sym k.0))
-primary-to ins d (t.Text s) v m k = (subst (λ z. Fits ins 11 z) (sym k.0) tt, k.1 ∙ ap (λ z. spelling d z) (sym k.0))
-primary-to ins d (t.Ident x) v m k = (subst (λ z. Fits ins 11 z) (sym k.0) tt, k.1 ∙ ap (λ z. spelling d z) (sym k.0))
+primary-to : (ins : Bool) (d : ℕ) (c : Terminal) (v : Tree) (m : List Symbol) → primary_branch d c v m → at ins 11 d v m
+primary-to ins d (t.Number i) v m k = (subst (λ z. MayStand ins 11 z) (sym k.0) tt, k.1 ∙ ap (λ z. spelling d z) (sym k.0))
+primary-to ins d (t.Text s) v m k = (subst (λ z. MayStand ins 11 z) (sym k.0) tt, k.1 ∙ ap (λ z. spelling d z) (sym k.0))
+primary-to ins d (t.Ident x) v m k = (subst (λ z. MayStand ins 11 z) (sym k.0) tt, k.1 ∙ ap (λ z. spelling d z) (sym k.0))
 primary-to ins d (t.Keyword w) v m (inl k) = constant-to ins d w v m k.0 k.1
 primary-to ins d (t.Keyword w) v m (inr k) = cas-to ins d v m k.1
 primary-to ins d (t.Punct c) v m k = bracket-to ins d c v m k
@@ -163,20 +163,20 @@ an_index d found = bind (a_bracket d) (λ e. some_more d (with_index found e))
 abbrev after_field : ℕ → Accesses → Language Accesses
 after_field d found xs m = an_index d found xs m ⊎ nothing found xs m
 
-bracket-first : (d : ℕ) (found xs : Accesses) (m : List Mark) (r : List Terminal) → an_index d found xs m → peek (terms m ++ r) ≡ t.Punct p.OpenBracket
+bracket-first : (d : ℕ) (found xs : Accesses) (m : List Symbol) (r : List Terminal) → an_index d found xs m → peek (terms m ++ r) ≡ t.Punct p.OpenBracket
 bracket-first d found xs m r (i, x, y, (u, x', y', l, k, e'), k', e) = ap (λ v. peek (terms v ++ r)) (e ∙ join (e' ∙ join l refl) refl)
 
-accesses-split : (ins : Bool) (d : ℕ) (found xs : Accesses) (m : List Mark) (r : List Terminal) → some_more d found xs m → rank ins (peek r) < 10
+accesses-split : (ins : Bool) (d : ℕ) (found xs : Accesses) (m : List Symbol) (r : List Terminal) → some_more d found xs m → rank ins (peek r) < 10
     → ((peek (terms m ++ r) ≡ t.Punct p.Dot) × a_field d found xs m) ⊎ ((peek (terms m ++ r) ≡ t.Punct p.Dot → ⊥) × after_field d found xs m)
 accesses-split ins d found xs m r (no_accesses, f, g, e) s =
     inr (λ h. let a : rank ins (peek r) ≡ 10 = ap (λ v. rank ins (peek (terms v ++ r))) (sym e) ∙ ap (λ v. rank ins v) h in absurd (omega arith), inr (g ∙ accesses_both-none found, e))
 accesses-split ins d found xs m r (field x more, f, g, e) s =
     inl (
       ap (λ v. peek (terms v ++ r)) e,
-      (tt, mark p.Dot ∷ [], plain (name_token x) ∷ accesses d more, refl, (x, plain (name_token x) ∷ [], accesses d more, refl, (more, f, g ∙ sym (accesses_both-field found more x), refl), refl), e),
+      (tt, punct p.Dot ∷ [], plain (name_token x) ∷ accesses d more, refl, (x, plain (name_token x) ∷ [], accesses d more, refl, (more, f, g ∙ sym (accesses_both-field found more x), refl), refl), e),
     )
 accesses-split ins d found xs m r (index i more, f, g, e) s =
-    let key = spelling (d + 1) i ++ mark p.CloseBracket ∷ [] in
+    let key = spelling (d + 1) i ++ punct p.CloseBracket ∷ [] in
     inr (
       λ h. let a : t.Punct p.OpenBracket ≡ t.Punct p.Dot = ap (λ v. peek (terms v ++ r)) (sym e) ∙ h in cc,
       inl (
@@ -189,10 +189,10 @@ accesses-split ins d found xs m r (index i more, f, g, e) s =
       ),
     )
 
-field-to : (d : ℕ) (found xs : Accesses) (m : List Mark) → a_field d found xs m → some_more d found xs m
+field-to : (d : ℕ) (found xs : Accesses) (m : List Symbol) → a_field d found xs m → some_more d found xs m
 field-to d found xs m (u, x, y, l, (i, x', y', l', (more, f, g, w), e'), e) = (field i more, f, g ∙ accesses_both-field found more i, e ∙ join l (e' ∙ join l' w))
 
-index-to : (d : ℕ) (found xs : Accesses) (m : List Mark) → after_field d found xs m → some_more d found xs m
+index-to : (d : ℕ) (found xs : Accesses) (m : List Symbol) → after_field d found xs m → some_more d found xs m
 index-to d found xs m (inl (i, x, y, (u, x', y', l, k, e'), (more, f, g, w), e)) = (
   index i more,
   (k.0, f),
@@ -201,7 +201,7 @@ index-to d found xs m (inl (i, x, y, (u, x', y', l, k, e'), (more, f, g, w), e))
 )
 index-to d found xs m (inr k) = (no_accesses, refl, k.0 ∙ sym (accesses_both-none found), k.1)
 
-any_more : (d : ℕ) (found : Accesses) → (xs : Accesses) × (m : List Mark) × some_more d found xs m
+any_more : (d : ℕ) (found : Accesses) → (xs : Accesses) × (m : List Symbol) × some_more d found xs m
 any_more d found = (found, [], (no_accesses, refl, sym (accesses_both-none found), refl))
 
 -- ---- postfix expressions
@@ -209,21 +209,21 @@ any_more d found = (found, [], (no_accesses, refl, sym (accesses_both-none found
 abbrev postfix_parts : Bool → ℕ → Language Tree
 postfix_parts ins d = bind (at ins 11 d) (λ e. mapped (member_of e) (some_more d no_accesses))
 
-postfix-to : (ins : Bool) (d : ℕ) (v : Tree) (m : List Mark) → postfix_parts ins d v m → at ins 10 d v m
+postfix-to : (ins : Bool) (d : ℕ) (v : Tree) (m : List Symbol) → postfix_parts ins d v m → at ins 10 d v m
 postfix-to ins d v m (e, x, y, k, (xs, (no_accesses, f, g, w), h), i) =
     let same : v ≡ e = h ∙ ap (λ z. member_of e z) g in
-    (subst (λ z. Fits ins 10 z) (sym same) (Fits-lower ins 10 11 e (omega arith) k.0), i ∙ join k.1 w ∙ nil-right (spelling d e) ∙ ap (λ z. spelling d z) (sym same))
+    (subst (λ z. MayStand ins 10 z) (sym same) (MayStand-lower ins 10 11 e (omega arith) k.0), i ∙ join k.1 w ∙ nil-right (spelling d e) ∙ ap (λ z. spelling d z) (sym same))
 postfix-to ins d v m (e, x, y, k, (xs, (field j more, f, g, w), h), i) =
     let same : v ≡ member e (field j more) = h ∙ ap (λ z. member_of e z) g in
-    (subst (λ z. Fits ins 10 z) (sym same) (omega arith, k.0, f), i ∙ join k.1 w ∙ ap (λ z. spelling d z) (sym same))
+    (subst (λ z. MayStand ins 10 z) (sym same) (omega arith, k.0, f), i ∙ join k.1 w ∙ ap (λ z. spelling d z) (sym same))
 postfix-to ins d v m (e, x, y, k, (xs, (index j more, f, g, w), h), i) =
     let same : v ≡ member e (index j more) = h ∙ ap (λ z. member_of e z) g in
-    (subst (λ z. Fits ins 10 z) (sym same) (omega arith, k.0, f), i ∙ join k.1 w ∙ ap (λ z. spelling d z) (sym same))
+    (subst (λ z. MayStand ins 10 z) (sym same) (omega arith, k.0, f), i ∙ join k.1 w ∙ ap (λ z. spelling d z) (sym same))
 
-postfix-alone : (ins : Bool) (d : ℕ) (v : Tree) (m : List Mark) → at ins 11 d v m → postfix_parts ins d v m
+postfix-alone : (ins : Bool) (d : ℕ) (v : Tree) (m : List Symbol) → at ins 11 d v m → postfix_parts ins d v m
 postfix-alone ins d v m k = (v, m, [], k, (no_accesses, (no_accesses, refl, refl, refl), refl), sym (nil-right m))
 
-postfix-from : (ins : Bool) (d : ℕ) (v : Tree) (m : List Mark) → at ins 10 d v m → postfix_parts ins d v m
+postfix-from : (ins : Bool) (d : ℕ) (v : Tree) (m : List Symbol) → at ins 10 d v m → postfix_parts ins d v m
 postfix-from ins d (number i) m k = postfix-alone ins d (number i) m k
 postfix-from ins d (literal s) m k = postfix-alone ins d (literal s) m k
 postfix-from ins d (constant w) m k = postfix-alone ins d (constant w) m k
@@ -241,7 +241,7 @@ postfix-from ins d (choose a b c) m k = absurd (omega (arith, k.0.0))
 postfix-from ins d (assign o a b) m k = absurd (omega (arith, k.0.0))
 
 -- no postfix expression begins with an operator
-postfix-sign : (ins : Bool) (e : Tree) → Fits ins 10 e → is_sign (first e) ≡ false
+postfix-sign : (ins : Bool) (e : Tree) → MayStand ins 10 e → is_sign (first e) ≡ false
 postfix-sign ins (number i) f = refl
 postfix-sign ins (literal s) f = refl
 postfix-sign ins (constant w) f = refl
@@ -249,7 +249,7 @@ postfix-sign ins (variable x) f = refl
 postfix-sign ins (group e) f = refl
 postfix-sign ins (object ps comma) f = refl
 postfix-sign ins (cas o k a b) f = refl
-postfix-sign ins (member e xs) f = postfix-sign ins e (Fits-lower ins 10 11 e (omega arith) f.1)
+postfix-sign ins (member e xs) f = postfix-sign ins e (MayStand-lower ins 10 11 e (omega arith) f.1)
 postfix-sign ins (unary o e) f = absurd (omega (arith, f.0))
 postfix-sign ins (delete e) f = absurd (omega (arith, f.0))
 postfix-sign ins (chain k e ls) f = let h = links-level ins k ls f.2 in absurd (omega (arith, f.0, h.1))
@@ -259,7 +259,7 @@ postfix-sign ins (assign o a b) f = absurd (omega (arith, f.0))
 not-delete : (w : Keyword) → is_constant w ≡ true → t.Keyword w ≡ t.Keyword kw.Delete → ⊥
 not-delete w f h = let g : w ≡ kw.Delete = cc in let e : is_constant kw.Delete ≡ true = subst (λ v. is_constant v ≡ true) g f in cc
 
-postfix-delete : (ins : Bool) (e : Tree) → Fits ins 10 e → first e ≡ t.Keyword kw.Delete → ⊥
+postfix-delete : (ins : Bool) (e : Tree) → MayStand ins 10 e → first e ≡ t.Keyword kw.Delete → ⊥
 postfix-delete ins (number i) f h = cc
 postfix-delete ins (literal s) f h = cc
 postfix-delete ins (constant w) f h = not-delete w f h
@@ -267,7 +267,7 @@ postfix-delete ins (variable x) f h = cc
 postfix-delete ins (group e) f h = cc
 postfix-delete ins (object ps comma) f h = cc
 postfix-delete ins (cas o k a b) f h = cc
-postfix-delete ins (member e xs) f h = postfix-delete ins e (Fits-lower ins 10 11 e (omega arith) f.1) h
+postfix-delete ins (member e xs) f h = postfix-delete ins e (MayStand-lower ins 10 11 e (omega arith) f.1) h
 postfix-delete ins (unary o e) f h = absurd (omega (arith, f.0))
 postfix-delete ins (delete e) f h = absurd (omega (arith, f.0))
 postfix-delete ins (chain k e ls) f h = let g = links-level ins k ls f.2 in absurd (omega (arith, f.0, g.1))
@@ -315,30 +315,30 @@ sign-cons : (ts : List Terminal) → is_sign (peek ts) ≡ true → ts ≡ peek 
 sign-cons [] h = cc
 sign-cons (c ∷ r) h = refl
 
--- the kinds of operands, by the token that stands first
-abbrev Kinds : Bool → ℕ → Tree → List Mark → Terminal → Type 0
+-- the kinds of operands, by the terminal that stands first
+abbrev Kinds : Bool → ℕ → Tree → List Symbol → Terminal → Type 0
 Kinds ins d v m c = ((is_sign c ≡ true) × a_sign d c v m) ⊎ ((is_sign c ≡ false) × unsigned ins d v m)
 
-kinds-postfix : (ins : Bool) (d : ℕ) (v : Tree) (m : List Mark) (r : List Terminal) → at ins 10 d v m → Kinds ins d v m (peek (terms m ++ r))
+kinds-postfix : (ins : Bool) (d : ℕ) (v : Tree) (m : List Symbol) (r : List Terminal) → at ins 10 d v m → Kinds ins d v m (peek (terms m ++ r))
 kinds-postfix ins d v m r k = inr (ap is_sign (first-at ins 10 d v m r k) ∙ postfix-sign ins v k.0, inr k)
 
-kinds-sign : (ins : Bool) (d : ℕ) (o : UnaryOperator) (e : Tree) (m : List Mark) (r : List Terminal) → at ins 9 d (unary o e) m → Kinds ins d (unary o e) m (peek (terms m ++ r))
+kinds-sign : (ins : Bool) (d : ℕ) (o : UnaryOperator) (e : Tree) (m : List Symbol) (r : List Terminal) → at ins 9 d (unary o e) m → Kinds ins d (unary o e) m (peek (terms m ++ r))
 kinds-sign ins d o e m r k =
     let here : peek (terms m ++ r) ≡ unary_token o = ap (λ v. peek (terms v ++ r)) k.1 in
     inl (
       ap is_sign here ∙ sign-true o,
       subst (λ c. a_sign d c (unary o e) m) (sym here)
-          (tt, (unary_token o, d + 1) ∷ [], spelling (d + 1) e, refl, (e, (Fits-flag ins true 9 e (omega arith) k.0.1, refl), ap (λ v. unary v e) (sym (sign-again o))), k.1),
+          (tt, (unary_token o, d + 1) ∷ [], spelling (d + 1) e, refl, (e, (MayStand-flag ins true 9 e (omega arith) k.0.1, refl), ap (λ v. unary v e) (sym (sign-again o))), k.1),
     )
 
-kinds-delete : (ins : Bool) (d : ℕ) (e : Tree) (m : List Mark) (r : List Terminal) → at ins 9 d (delete e) m → Kinds ins d (delete e) m (peek (terms m ++ r))
+kinds-delete : (ins : Bool) (d : ℕ) (e : Tree) (m : List Symbol) (r : List Terminal) → at ins 9 d (delete e) m → Kinds ins d (delete e) m (peek (terms m ++ r))
 kinds-delete ins d e m r k =
     inr (
       ap (λ v. is_sign (peek (terms v ++ r))) k.1,
-      inl (tt, (t.Keyword kw.Delete, d + 1) ∷ [], spelling (d + 1) e, refl, (e, (λ _. k.0.1, (Fits-flag ins true 10 e (omega arith) k.0.2, refl)), refl), k.1),
+      inl (tt, (t.Keyword kw.Delete, d + 1) ∷ [], spelling (d + 1) e, refl, (e, (λ _. k.0.1, (MayStand-flag ins true 10 e (omega arith) k.0.2, refl)), refl), k.1),
     )
 
-kinds : (ins : Bool) (d : ℕ) (v : Tree) (m : List Mark) (r : List Terminal) → at ins 9 d v m → Kinds ins d v m (peek (terms m ++ r))
+kinds : (ins : Bool) (d : ℕ) (v : Tree) (m : List Symbol) (r : List Terminal) → at ins 9 d v m → Kinds ins d v m (peek (terms m ++ r))
 kinds ins d (number i) m r k = kinds-postfix ins d (number i) m r k
 kinds ins d (literal s) m r k = kinds-postfix ins d (literal s) m r k
 kinds ins d (constant w) m r k = kinds-postfix ins d (constant w) m r k
@@ -353,24 +353,24 @@ kinds ins d (chain j e ls) m r k = let h = links-level ins j ls k.0.2 in absurd 
 kinds ins d (choose a b c) m r k = absurd (omega (arith, k.0.0))
 kinds ins d (assign o a b) m r k = absurd (omega (arith, k.0.0))
 
-sign-to : (ins : Bool) (d : ℕ) (c : Terminal) → is_sign c ≡ true → (v : Tree) (m : List Mark) → a_sign d c v m → at ins 9 d v m
+sign-to : (ins : Bool) (d : ℕ) (c : Terminal) → is_sign c ≡ true → (v : Tree) (m : List Symbol) → a_sign d c v m → at ins 9 d v m
 sign-to ins d c h v m (i, x, y, l, (e, k, same), f) = (
-  subst (λ z. Fits ins 9 z) (sym same) (omega arith, Fits-flag true ins 9 e (omega arith) k.0),
+  subst (λ z. MayStand ins 9 z) (sym same) (omega arith, MayStand-flag true ins 9 e (omega arith) k.0),
   f ∙ join l k.1 ∙ ap (λ z. (z, d + 1) ∷ spelling (d + 1) e) (sym (sign-token c h)) ∙ ap (λ z. spelling d z) (sym same),
 )
 
-unsigned-to : (ins : Bool) (d : ℕ) (v : Tree) (m : List Mark) → unsigned ins d v m → at ins 9 d v m
+unsigned-to : (ins : Bool) (d : ℕ) (v : Tree) (m : List Symbol) → unsigned ins d v m → at ins 9 d v m
 unsigned-to ins d v m (inl (i, x, y, l, (e, k, same), f)) =
-    (subst (λ z. Fits ins 9 z) (sym same) (omega arith, k.0 refl, Fits-flag true ins 10 e (omega arith) k.1.0), f ∙ join l k.1.1 ∙ ap (λ z. spelling d z) (sym same))
+    (subst (λ z. MayStand ins 9 z) (sym same) (omega arith, k.0 refl, MayStand-flag true ins 10 e (omega arith) k.1.0), f ∙ join l k.1.1 ∙ ap (λ z. spelling d z) (sym same))
 unsigned-to ins d v m (inr k) = at-lower ins 9 10 d v m (omega arith) k
 
 -- a property that a postfix expression is, or that begins with it
-longer : (ins : Bool) (d : ℕ) (e : Tree) (m : List Mark) → at ins 11 d e m → (v : Tree) × (y : List Mark) × level_language ins 10 d v (m ++ y)
+longer : (ins : Bool) (d : ℕ) (e : Tree) (m : List Symbol) → at ins 11 d e m → (v : Tree) × (y : List Symbol) × level_language ins 10 d v (m ++ y)
 longer ins d e m k =
     let xs = field some_name no_accesses in
     (member e xs, accesses d xs, (λ _. tt, ((omega arith, k.0, refl), ap (λ v. v ++ accesses d xs) k.1)))
 
-longer-member : (ins : Bool) (d : ℕ) (e : Tree) (m : List Mark) → at ins 10 d e m → (v : Tree) × (y : List Mark) × level_language ins 10 d v (m ++ y)
+longer-member : (ins : Bool) (d : ℕ) (e : Tree) (m : List Symbol) → at ins 10 d e m → (v : Tree) × (y : List Symbol) × level_language ins 10 d v (m ++ y)
 longer-member ins d (number i) m k = longer ins d (number i) m k
 longer-member ins d (literal s) m k = longer ins d (literal s) m k
 longer-member ins d (constant w) m k = longer ins d (constant w) m k
@@ -418,8 +418,8 @@ true-member (assign o a b) h = absurd h
 -- ---- some of the values that are read, where each can be continued to one of them
 
 module _ {A : Type 0} (L L' : Language A) (S G : Stops A) (limit : ℕ) (ts : List Terminal) (test : A → Bool)
-    (sub : (a : A) (m : List Mark) → L' a m → L a m) (pass : (a : A) (m : List Mark) → L a m → test a ≡ true → L' a m) (only_pass : (a : A) (m : List Mark) → L' a m → test a ≡ true)
-    (more : (a : A) (m : List Mark) → L a m → (b : A) × (y : List Mark) × L' b (m ++ y)) where
+    (sub : (a : A) (m : List Symbol) → L' a m → L a m) (pass : (a : A) (m : List Symbol) → L a m → test a ≡ true → L' a m) (only_pass : (a : A) (m : List Symbol) → L' a m → test a ≡ true)
+    (more : (a : A) (m : List Symbol) → L a m → (b : A) × (y : List Symbol) × L' b (m ++ y)) where
   narrow-by : (a : A) (r : List Terminal) → Whole L S G limit ts a r → (b : Bool) → test a ≡ b → Outcome L' S G limit ts (if b then Ok (a, r) else Err (unexpected, r))
   narrow-by a r h true e = record { word = h.word; spelled = pass a h.word h.spelled e; front = h.front; within = h.within; stops = h.stops; only = λ a' m r' r'' same k s f. h.only a' m r' r'' same (sub a' m k) s f }
   narrow-by a r h false e = record {
@@ -468,7 +468,7 @@ module _ (limit d room : ℕ) (sum : d + room ≡ limit) (below : Below) (ih : 0
       (λ h. outcome-fail (at ins 11 d) (Above ins 11) Any limit ts (some_tree ins 11 d)
       (λ v m r k s f. elim (subst (λ c. primary_branch d c v m) (f ∙ e) (primary-split ins d v m r k)) [ inl g ↦ let z = g.0 in cc | inr g ↦ other g.0 ]))
 
-  -- a primary expression by the token that it begins with
+  -- a primary expression by the terminal that it begins with
   outcome-first : (c : Terminal) (ts : List Terminal) (res : Reading Tree) → peek ts ≡ c → Outcome (primary_branch d c) (Above ins 11) Any limit ts res → Outcome (at ins 11 d) (Above ins 11) Any limit ts res
   outcome-first c ts res e h = outcome-branch (primary_branch d) (at ins 11 d) (Above ins 11) Any limit ts c e (primary-to ins d c) (λ v m r k s. primary-split ins d v m r k) res h
 
@@ -532,7 +532,7 @@ module _ (limit d room : ℕ) (sum : d + room ≡ limit) (below : Below) (ih : 0
       outcome-bind (a_bracket d) Any Any (λ i. some_more d (with_index found i)) (Above ins 10) Any limit (λ _ _ _ _ _ _ _ _. tt) (λ i _ _. any_more d (with_index found i)) ts (index_at room below ts) f (outcome-index ts e)
       (λ i y r l g front. more i r (bind-shorter (t.Punct p.OpenBracket) (d + 1) (an_ended (d + 1) p.CloseBracket) i ts r y l front))
 
-  after-field-split : (found xs : Accesses) (m : List Mark) (r : List Terminal) → after_field d found xs m → rank ins (peek r) < 10
+  after-field-split : (found xs : Accesses) (m : List Symbol) (r : List Terminal) → after_field d found xs m → rank ins (peek r) < 10
       → ((peek (terms m ++ r) ≡ t.Punct p.OpenBracket) × an_index d found xs m) ⊎ ((peek (terms m ++ r) ≡ t.Punct p.OpenBracket → ⊥) × nothing found xs m)
   after-field-split found xs m r (inl k) s = inl (bracket-first d found xs m r k, k)
   after-field-split found xs m r (inr k) s = inr (λ h. let a : rank ins (peek r) ≡ 10 = ap (λ v. rank ins (peek (terms v ++ r))) (sym k.1) ∙ ap (λ c. rank ins c) h in absurd (omega arith), k)
@@ -584,10 +584,10 @@ module _ (limit d room : ℕ) (sum : d + room ≡ limit) (below : Below) (ih : 0
       (λ a m c k s. let h : rank true c < 9 = rank-flag ins true c 9 (omega arith) s in omega arith) (λ _ _ _ _ _. tt)
       (below true 10 ts) (ih pos true 10 (inr (omega arith, omega arith)) ts)
 
-  some_signed : (o : UnaryOperator) → (v : Tree) × (m : List Mark) × signed d o v m
+  some_signed : (o : UnaryOperator) → (v : Tree) × (m : List Symbol) × signed d o v m
   some_signed o = let i = some_tree true 9 (d + 1) in (unary o i.0, i.1, (i.0, i.2, refl))
 
-  some_deleted : (v : Tree) × (m : List Mark) × deleted d v m
+  some_deleted : (v : Tree) × (m : List Symbol) × deleted d v m
   some_deleted = let i = some_tree true 11 (d + 1) in let e = longer true (d + 1) i.0 i.1 i.2 in (delete e.0, i.1 ++ e.1, (e.0, e.2, refl))
 
   outcome-unsigned : (ts : List Terminal)

@@ -12,24 +12,24 @@ use Rattle.jo_tree.specs.declared.word.Name.TheVariants as n
 use Rattle.jo_tree.specs.declared.word.PropKey.{PropKey}
 use Rattle.jo_tree.specs.declared.word.PropKey.TheVariants as q
 use Rattle.jo_grammar.specs.Operators.{name_token, key_token, reads_proto}
-use Rattle.jo_grammar.specs.Expressions.{Mark, plain}
+use Rattle.jo_grammar.specs.Expressions.{Symbol, plain}
 use Rattle.jo_grammar.specs.Refusals.{Language, terms, Within, Fault, unexpected, too_deep}
 use Rattle.jo_grammar.specs.inner.Read.{Reading, and_then, peek, next, code, sees, expect, open_at, enter, take, name_of, name, key_of, key}
 
--- ---- lists of tokens
+-- ---- lists of terminals
 
-pub terms-append : (x y : List Mark) → terms (x ++ y) ≡ terms x ++ terms y
+pub terms-append : (x y : List Symbol) → terms (x ++ y) ≡ terms x ++ terms y
 terms-append [] y = refl
 terms-append (m ∷ x) y = ap (λ z. m.0 ∷ z) (terms-append x y)
 
-pub terms-split : (x y : List Mark) (r : List Terminal) → terms (x ++ y) ++ r ≡ terms x ++ (terms y ++ r)
+pub terms-split : (x y : List Symbol) (r : List Terminal) → terms (x ++ y) ++ r ≡ terms x ++ (terms y ++ r)
 terms-split x y r = ap (λ z. z ++ r) (terms-append x y) ∙ append_assoc (terms x) (terms y) r
 
-pub Within-append : (n : ℕ) (x y : List Mark) → Within n x → Within n y → Within n (x ++ y)
+pub Within-append : (n : ℕ) (x y : List Symbol) → Within n x → Within n y → Within n (x ++ y)
 Within-append n [] y h k = k
 Within-append n (m ∷ x) y h k = (h.0, Within-append n x y h.1 k)
 
-pub peek-same : (x : List Mark) (r r' : List Terminal) → peek r ≡ peek r' → peek (terms x ++ r) ≡ peek (terms x ++ r')
+pub peek-same : (x : List Symbol) (r r' : List Terminal) → peek r ≡ peek r' → peek (terms x ++ r) ≡ peek (terms x ++ r')
 peek-same [] r r' e = e
 peek-same (m ∷ x) r r' e = refl
 
@@ -37,36 +37,36 @@ pub cancel : {A : Type 0} (x : List A) {r r' : List A} → x ++ r ≡ x ++ r' �
 cancel [] e = e
 cancel (a ∷ x) {r} {r'} e = let f : x ++ r ≡ x ++ r' = cc in cancel x f
 
--- which token may follow a value
+-- which terminal may follow a value
 abbrev pub Stops : Type 0 → Type 1
 Stops A = A → Terminal → Type 0
 
--- The tokens begin with this value, and with no other.
+-- The terminals begin with this value, and with no other.
 pub record Whole {A : Type 0} (L : Language A) (S G : Stops A) (limit : ℕ) (ts : List Terminal) (a : A) (r : List Terminal) : Type 0 where
-  pub word : List Mark
+  pub word : List Symbol
   pub spelled : L a word
   pub front : ts ≡ terms word ++ r
   pub within : Within limit word
   pub stops : G a (peek r)
-  pub only : (a' : A) (m : List Mark) (r' r'' : List Terminal) → peek r'' ≡ peek r → L a' m → S a' (peek r') → terms m ++ r' ≡ terms word ++ r'' → (a' ≡ a) × (m ≡ word)
+  pub only : (a' : A) (m : List Symbol) (r' r'' : List Terminal) → peek r'' ≡ peek r → L a' m → S a' (peek r') → terms m ++ r' ≡ terms word ++ r'' → (a' ≡ a) × (m ≡ word)
 
--- The tokens before r go on to some value, and no value goes on with the next one.
+-- The terminals before r go on to some value, and no value goes on with the next one.
 pub record Stuck {A : Type 0} (L : Language A) (S : Stops A) (limit : ℕ) (ts : List Terminal) (r : List Terminal) : Type 0 where
-  pub word : List Mark
+  pub word : List Symbol
   pub front : ts ≡ terms word ++ r
   pub within : Within limit word
-  pub live : (a : A) × (m : List Mark) × (q : List Mark) × L a m × (m ≡ word ++ q)
-  pub dead : (a' : A) (m : List Mark) (r' r'' : List Terminal) → peek r'' ≡ peek r → L a' m → S a' (peek r') → terms m ++ r' ≡ terms word ++ r'' → ⊥
+  pub live : (a : A) × (m : List Symbol) × (q : List Symbol) × L a m × (m ≡ word ++ q)
+  pub dead : (a' : A) (m : List Symbol) (r' r'' : List Terminal) → peek r'' ≡ peek r → L a' m → S a' (peek r') → terms m ++ r' ≡ terms word ++ r'' → ⊥
 
--- The tokens before c go on to some value with c, and in each such value c opens one construct too many.
+-- The terminals before c go on to some value with c, and in each such value c opens one construct too many.
 pub record Deep {A : Type 0} (L : Language A) (S : Stops A) (limit : ℕ) (ts : List Terminal) (c : Terminal) (r : List Terminal) : Type 0 where
-  pub word : List Mark
+  pub word : List Symbol
   pub front : ts ≡ terms word ++ (c ∷ r)
   pub within : Within limit word
   pub opens : ℕ
   pub above : limit < opens
-  pub live : (a : A) × (m : List Mark) × (q : List Mark) × L a m × (m ≡ word ++ ((c, opens) ∷ q))
-  pub forced : (a' : A) (m : List Mark) (r' r'' : List Terminal) → peek r'' ≡ c → L a' m → S a' (peek r') → terms m ++ r' ≡ terms word ++ r'' → (q : List Mark) × (m ≡ word ++ ((c, opens) ∷ q))
+  pub live : (a : A) × (m : List Symbol) × (q : List Symbol) × L a m × (m ≡ word ++ ((c, opens) ∷ q))
+  pub forced : (a' : A) (m : List Symbol) (r' r'' : List Terminal) → peek r'' ≡ c → L a' m → S a' (peek r') → terms m ++ r' ≡ terms word ++ r'' → (q : List Symbol) × (m ≡ word ++ ((c, opens) ∷ q))
 
 abbrev pub Failing : {A : Type 0} (L : Language A) (S : Stops A) (limit : ℕ) (ts : List Terminal) → Fault → List Terminal → Type 0
 Failing L S limit ts unexpected r = Stuck L S limit ts r
@@ -80,15 +80,15 @@ Outcome L S G limit ts (Err e) = Failing L S limit ts e.0 e.1
 -- ---- one value after another
 
 abbrev pub bind : {A B : Type 0} → Language A → (A → Language B) → Language B
-bind {A} L K b m = (a : A) × (x : List Mark) × (y : List Mark) × L a x × K a b y × (m ≡ x ++ y)
+bind {A} L K b m = (a : A) × (x : List Symbol) × (y : List Symbol) × L a x × K a b y × (m ≡ x ++ y)
 
 module _ {A B : Type 0} (L : Language A) (S G : Stops A) (K : A → Language B) (S' G' : Stops B) (limit : ℕ)
-    (follow : (a : A) (x : List Mark) (b : B) (y : List Mark) (r : List Terminal) → L a x → K a b y → S' b (peek r) → S a (peek (terms y ++ r)))
-    (some : (a : A) (x : List Mark) → L a x → (b : B) × (y : List Mark) × K a b y) (ts : List Terminal) where
+    (follow : (a : A) (x : List Symbol) (b : B) (y : List Symbol) (r : List Terminal) → L a x → K a b y → S' b (peek r) → S a (peek (terms y ++ r)))
+    (some : (a : A) (x : List Symbol) → L a x → (b : B) × (y : List Symbol) × K a b y) (ts : List Terminal) where
   -- what a competitor says once its first part is known
-  bind_first : (a : A) (r : List Terminal) (w : Whole L S G limit ts a r) (z : List Mark) (r2 : List Terminal) → r ≡ terms z ++ r2
-      → (b' : B) (m : List Mark) (r' r'' : List Terminal) → peek r'' ≡ peek r2 → bind L K b' m → S' b' (peek r') → terms m ++ r' ≡ terms (w.word ++ z) ++ r''
-      → (y : List Mark) × K a b' y × (m ≡ w.word ++ y) × (terms y ++ r' ≡ terms z ++ r'')
+  bind_first : (a : A) (r : List Terminal) (w : Whole L S G limit ts a r) (z : List Symbol) (r2 : List Terminal) → r ≡ terms z ++ r2
+      → (b' : B) (m : List Symbol) (r' r'' : List Terminal) → peek r'' ≡ peek r2 → bind L K b' m → S' b' (peek r') → terms m ++ r' ≡ terms (w.word ++ z) ++ r''
+      → (y : List Symbol) × K a b' y × (m ≡ w.word ++ y) × (terms y ++ r' ≡ terms z ++ r'')
   bind_first a r w z r2 front b' m r' r'' same k s e =
       let x = k.1 in
       let y = k.2 in
@@ -135,7 +135,7 @@ module _ {A B : Type 0} (L : Language A) (S G : Stops A) (K : A → Language B) 
   }
 
   pub outcome-bind : (ra : Reading A) (f : A → List Terminal → Reading B) → Outcome L S G limit ts ra
-      → ((a : A) (x : List Mark) (r : List Terminal) → L a x → G a (peek r) → ts ≡ terms x ++ r → Outcome (K a) S' G' limit r (f a r))
+      → ((a : A) (x : List Symbol) (r : List Terminal) → L a x → G a (peek r) → ts ≡ terms x ++ r → Outcome (K a) S' G' limit r (f a r))
       → Outcome (bind L K) S' G' limit ts (and_then ra f)
   outcome-bind (Ok p) f w next = bind_ok p.0 p.1 w (f p.0 p.1) (next p.0 w.word p.1 w.spelled w.stops w.front)
   outcome-bind (Err (unexpected, r2)) f h next = record {
@@ -164,9 +164,9 @@ module _ {A B : Type 0} (L : Language A) (S G : Stops A) (K : A → Language B) 
 -- ---- another language with the same values here
 
 module _ {A : Type 0} (L L' : Language A) (S S' G G' : Stops A) (limit : ℕ) (ts : List Terminal)
-    (within' : (a : A) (m : List Mark) → L a m → L' a m) (stop : (a : A) (m : List Mark) (c : Terminal) → L a m → G a c → G' a c)
-    (pick : (a : A) (m : List Mark) (r : List Terminal) → L' a m → S' a (peek r) → peek (terms m ++ r) ≡ peek ts → L a m × S a (peek r)) where
-  same_head : (w : List Mark) (r r' r'' : List Terminal) (m : List Mark) → ts ≡ terms w ++ r → peek r'' ≡ peek r → terms m ++ r' ≡ terms w ++ r'' → peek (terms m ++ r') ≡ peek ts
+    (within' : (a : A) (m : List Symbol) → L a m → L' a m) (stop : (a : A) (m : List Symbol) (c : Terminal) → L a m → G a c → G' a c)
+    (pick : (a : A) (m : List Symbol) (r : List Terminal) → L' a m → S' a (peek r) → peek (terms m ++ r) ≡ peek ts → L a m × S a (peek r)) where
+  same_head : (w : List Symbol) (r r' r'' : List Terminal) (m : List Symbol) → ts ≡ terms w ++ r → peek r'' ≡ peek r → terms m ++ r' ≡ terms w ++ r'' → peek (terms m ++ r') ≡ peek ts
   same_head w r r' r'' m front same e = ap peek e ∙ (peek-same w r'' r same ∙ ap peek (sym front))
 
   pub outcome-choose : (res : Reading A) → Outcome L S G limit ts res → Outcome L' S' G' limit ts res
@@ -214,22 +214,22 @@ nothing v a m = (a ≡ v) × (m ≡ [])
 pub outcome-pure : {A : Type 0} (v : A) (S G : Stops A) (limit : ℕ) (ts : List Terminal) → G v (peek ts) → Outcome (nothing v) S G limit ts (Ok (v, ts))
 outcome-pure v S G limit ts g = record { word = []; spelled = (refl, refl); front = refl; within = tt; stops = g; only = λ a' m r' r'' same k s e. k }
 
--- one token, which makes o constructs open
+-- one terminal, which makes o constructs open
 abbrev pub one : Terminal → ℕ → Language (Unit {0})
 one c o u m = m ≡ (c, o) ∷ []
 
 pub outcome-token : (c : Terminal) (o limit : ℕ) (r : List Terminal) → o ≤ limit → Outcome (one c o) Any Any limit (c ∷ r) (Ok (tt, r))
 outcome-token c o limit r h = record { word = (c, o) ∷ []; spelled = refl; front = refl; within = (h, tt); stops = tt; only = λ a' m r' r'' same k s e. (refl, k) }
 
--- a token that opens a construct, and what comes after it
+-- a terminal that opens a construct, and what comes after it
 pub outcome-token-then : {B : Type 0} (c : Terminal) (o limit : ℕ) (r : List Terminal) (K : Language B) (S' G' : Stops B) (res : Reading B) → o ≤ limit
-    → ((b : B) × (y : List Mark) × K b y) → Outcome K S' G' limit r res → Outcome (bind (one c o) (λ _. K)) S' G' limit (c ∷ r) res
+    → ((b : B) × (y : List Symbol) × K b y) → Outcome K S' G' limit r res → Outcome (bind (one c o) (λ _. K)) S' G' limit (c ∷ r) res
 outcome-token-then c o limit r K S' G' res h some more =
     bind_ok (one c o) Any Any (λ _. K) S' G' limit (λ _ _ _ _ _ _ _ _. tt) (λ _ _ _. some) (c ∷ r) tt r (outcome-token c o limit r h) res more
 
 -- the same where no construct more may be open
 pub outcome-deep : {B : Type 0} (c : Terminal) (o limit : ℕ) (r : List Terminal) (K : Language B) (S' G' : Stops B) → limit < o
-    → ((b : B) × (y : List Mark) × K b y) → Outcome (bind (one c o) (λ _. K)) S' G' limit (c ∷ r) (Err (too_deep, c ∷ r))
+    → ((b : B) × (y : List Symbol) × K b y) → Outcome (bind (one c o) (λ _. K)) S' G' limit (c ∷ r) (Err (too_deep, c ∷ r))
 outcome-deep c o limit r K S' G' h some = record {
   word = [];
   front = refl;
@@ -241,8 +241,8 @@ outcome-deep c o limit r K S' G' h some = record {
 }
 
 -- no value begins so
-pub outcome-fail : {A : Type 0} (L : Language A) (S G : Stops A) (limit : ℕ) (ts : List Terminal) → ((a : A) × (m : List Mark) × L a m)
-    → ((a : A) (m : List Mark) (r : List Terminal) → L a m → S a (peek r) → peek (terms m ++ r) ≡ peek ts → ⊥) → Outcome L S G limit ts (Err (unexpected, ts))
+pub outcome-fail : {A : Type 0} (L : Language A) (S G : Stops A) (limit : ℕ) (ts : List Terminal) → ((a : A) × (m : List Symbol) × L a m)
+    → ((a : A) (m : List Symbol) (r : List Terminal) → L a m → S a (peek r) → peek (terms m ++ r) ≡ peek ts → ⊥) → Outcome L S G limit ts (Err (unexpected, ts))
 outcome-fail L S G limit ts some never = record {
   word = [];
   front = refl;
@@ -251,23 +251,23 @@ outcome-fail L S G limit ts some never = record {
   dead = λ a' m r' r'' same k s e. never a' m r' k s (ap peek e ∙ same);
 }
 
--- a token that opens a construct, where there may be room for it
+-- a terminal that opens a construct, where there may be room for it
 pub outcome-opened : {B : Type 0} (c : Terminal) (d room limit : ℕ) (r : List Terminal) (K : Language B) (S' G' : Stops B) (f : List Terminal → Reading B) → d + room ≡ limit
-    → ((b : B) × (y : List Mark) × K b y) → (0 < room → Outcome K S' G' limit r (f r)) → Outcome (bind (one c (d + 1)) (λ _. K)) S' G' limit (c ∷ r) (and_then (open_at room (c ∷ r)) (λ _ r. f r))
+    → ((b : B) × (y : List Symbol) × K b y) → (0 < room → Outcome K S' G' limit r (f r)) → Outcome (bind (one c (d + 1)) (λ _. K)) S' G' limit (c ∷ r) (and_then (open_at room (c ∷ r)) (λ _ r. f r))
 outcome-opened c d zero limit r K S' G' f sum some more = outcome-deep c (d + 1) limit r K S' G' (omega arith) some
 outcome-opened c d (suc n) limit r K S' G' f sum some more = outcome-token-then c (d + 1) limit r K S' G' (f r) (omega arith) some (more (omega arith))
 
--- a language by the token that stands first
+-- a language by the terminal that stands first
 pub outcome-branch : {A : Type 0} (branch : Terminal → Language A) (L : Language A) (S G : Stops A) (limit : ℕ) (ts : List Terminal) (c : Terminal) → peek ts ≡ c
-    → ((a : A) (m : List Mark) → branch c a m → L a m)
-    → ((a : A) (m : List Mark) (r : List Terminal) → L a m → S a (peek r) → branch (peek (terms m ++ r)) a m)
+    → ((a : A) (m : List Symbol) → branch c a m → L a m)
+    → ((a : A) (m : List Symbol) (r : List Terminal) → L a m → S a (peek r) → branch (peek (terms m ++ r)) a m)
     → (res : Reading A) → Outcome (branch c) S G limit ts res → Outcome L S G limit ts res
 outcome-branch branch L S G limit ts c first to from res h =
     outcome-choose (branch c) L S S G G limit ts to (λ _ _ _ _ g. g) (λ a m r k s e. (subst (λ c. branch c a m) (e ∙ first) (from a m r k s), s)) res h
 
 -- another way to say the same language
 pub outcome-same : {A : Type 0} (L L' : Language A) (S G : Stops A) (limit : ℕ) (ts : List Terminal)
-    → ((a : A) (m : List Mark) → L a m → L' a m) → ((a : A) (m : List Mark) → L' a m → L a m)
+    → ((a : A) (m : List Symbol) → L a m → L' a m) → ((a : A) (m : List Symbol) → L' a m → L a m)
     → (res : Reading A) → Outcome L S G limit ts res → Outcome L' S G limit ts res
 outcome-same L L' S G limit ts to from res h =
     outcome-choose L L' S S G G limit ts to (λ _ _ _ _ g. g) (λ a m r k s e. (from a m k, s)) res h
@@ -277,7 +277,7 @@ abbrev pub mapped : {A B : Type 0} → (A → B) → Language A → Language B
 mapped {A} f L b m = (a : A) × L a m × (b ≡ f a)
 
 pub outcome-map : {A B : Type 0} (f : A → B) (L : Language A) (S G : Stops A) (S' G' : Stops B) (limit : ℕ) (ts : List Terminal)
-    → ((a : A) (m : List Mark) (c : Terminal) → L a m → S' (f a) c → S a c) → ((a : A) (m : List Mark) (c : Terminal) → L a m → G a c → G' (f a) c)
+    → ((a : A) (m : List Symbol) (c : Terminal) → L a m → S' (f a) c → S a c) → ((a : A) (m : List Symbol) (c : Terminal) → L a m → G a c → G' (f a) c)
     → (ra : Reading A) → Outcome L S G limit ts ra → Outcome (mapped f L) S' G' limit ts (and_then ra (λ a r. Ok (f a, r)))
 outcome-map f L S G S' G' limit ts follow stop (Ok p) h = record {
   word = h.word;
@@ -312,10 +312,10 @@ pub outcome-if : {A : Type 0} (L : Language A) (S G : Stops A) (limit : ℕ) (ts
 outcome-if L S G limit ts true x y f g = f refl
 outcome-if L S G limit ts false x y f g = g refl
 
-pub join : {x x' y y' : List Mark} → x ≡ x' → y ≡ y' → x ++ y ≡ x' ++ y'
+pub join : {x x' y y' : List Symbol} → x ≡ x' → y ≡ y' → x ++ y ≡ x' ++ y'
 join {x} {x'} {y} {y'} p q = ap (λ v. v ++ y) p ∙ ap (λ v. x' ++ v) q
 
--- ---- the next token
+-- ---- the next terminal
 
 table : List Terminal
 table =
@@ -402,10 +402,10 @@ sees-cons c ts h e = peek-cons c ts (λ f. omega arith) (sees-true c ts h e)
 pub sees-false : (c b : Terminal) (ts : List Terminal) → sees c ts ≡ false → b ≡ peek ts → b ≡ c → ⊥
 sees-false c b ts e same here = let f : sees c ts ≡ true = ap (λ v. code v == code c) (sym same ∙ here) ∙ eq-eqb (code c) (code c) refl in cc
 
--- a choice by whether the next token is c
+-- a choice by whether the next terminal is c
 pub outcome-sees : {A : Type 0} (c : Terminal) (L L₁ L₂ : Language A) (S G : Stops A) (limit : ℕ) (ts : List Terminal) (x y : Reading A) → 5 ≤ code c
-    → ((a : A) (m : List Mark) → L₁ a m → L a m) → ((a : A) (m : List Mark) → L₂ a m → L a m)
-    → ((a : A) (m : List Mark) (r : List Terminal) → L a m → S a (peek r) → ((peek (terms m ++ r) ≡ c) × L₁ a m) ⊎ ((peek (terms m ++ r) ≡ c → ⊥) × L₂ a m))
+    → ((a : A) (m : List Symbol) → L₁ a m → L a m) → ((a : A) (m : List Symbol) → L₂ a m → L a m)
+    → ((a : A) (m : List Symbol) (r : List Terminal) → L a m → S a (peek r) → ((peek (terms m ++ r) ≡ c) × L₁ a m) ⊎ ((peek (terms m ++ r) ≡ c → ⊥) × L₂ a m))
     → (ts ≡ c ∷ next ts → Outcome L₁ S G limit ts x) → ((peek ts ≡ c → ⊥) → Outcome L₂ S G limit ts y) → Outcome L S G limit ts (if sees c ts then x else y)
 outcome-sees c L L₁ L₂ S G limit ts x y h to₁ to₂ split there apart =
     outcome-if L S G limit ts (sees c ts) x y
@@ -414,11 +414,11 @@ outcome-sees c L L₁ L₂ S G limit ts x y h to₁ to₂ split there apart =
     (λ e. outcome-choose L₂ L S S G G limit ts to₂ (λ _ _ _ _ g. g)
     (λ a m r l s f. (elim (split a m r l s) [ inl k ↦ absurd (sees-false c (peek (terms m ++ r)) ts e f k.0) | inr k ↦ k.1 ], s)) y (apart (λ f. sees-false c (peek ts) ts e refl f)))
 
--- what is read after a token stands after that token
-pub first-of : {B : Type 0} (c : Terminal) (o : ℕ) (K : Language B) (b : B) (y : List Mark) (r : List Terminal) → bind (one c o) (λ _. K) b y → peek (terms y ++ r) ≡ c
+-- what is read after a terminal stands after that terminal
+pub first-of : {B : Type 0} (c : Terminal) (o : ℕ) (K : Language B) (b : B) (y : List Symbol) (r : List Terminal) → bind (one c o) (λ _. K) b y → peek (terms y ++ r) ≡ c
 first-of c o K b y r k = ap (λ v. peek (terms v ++ r)) (k.5 ∙ ap (λ v. v ++ k.2) k.3)
 
-pub some-after : {B : Type 0} (c : Terminal) (o : ℕ) (K : Language B) → ((b : B) × (y : List Mark) × K b y) → (b : B) × (y : List Mark) × bind (one c o) (λ _. K) b y
+pub some-after : {B : Type 0} (c : Terminal) (o : ℕ) (K : Language B) → ((b : B) × (y : List Symbol) × K b y) → (b : B) × (y : List Symbol) × bind (one c o) (λ _. K) b y
 some-after c o K k = (k.0, (c, o) ∷ k.1, (tt, (c, o) ∷ [], k.1, refl, k.2, refl))
 
 pub outcome-expect : (c : Terminal) (limit : ℕ) (ts : List Terminal) → 5 ≤ code c → Outcome (one c 0) Any Any limit ts (expect c ts)
@@ -428,42 +428,42 @@ outcome-expect c limit ts h =
     (λ e. subst (λ v. Outcome (one c 0) Any Any limit v (Ok (tt, next ts))) (sym (sees-cons c ts h e)) (outcome-token c 0 limit (next ts) (omega arith)))
     (λ e. outcome-fail (one c 0) Any Any limit ts (tt, (c, 0) ∷ [], refl) (λ a m r l s f. sees-false c (peek (terms m ++ r)) ts e f (ap (λ v. peek (terms v ++ r)) l)))
 
--- a token that opens a construct, read after a test, with the room that it leaves
+-- a terminal that opens a construct, read after a test, with the room that it leaves
 module _ {B : Type 0} (c : Terminal) (d room limit : ℕ) (ts : List Terminal) (K : Language B) (S G : Stops B) where
-  opened-with-cons : (f : ℕ → List Terminal → Reading B) → (r : List Terminal) → (left : ℕ) → d + left ≡ limit → ((b : B) × (y : List Mark) × K b y)
+  opened-with-cons : (f : ℕ → List Terminal → Reading B) → (r : List Terminal) → (left : ℕ) → d + left ≡ limit → ((b : B) × (y : List Symbol) × K b y)
       → ((inner : ℕ) → d + 1 + inner ≡ limit → Outcome K S G limit r (f inner r)) → Outcome (bind (one c (d + 1)) (λ _. K)) S G limit (c ∷ r) (and_then (open_at left (c ∷ r)) f)
   opened-with-cons f r zero sum some more = outcome-deep c (d + 1) limit r K S G (omega arith) some
   opened-with-cons f r (suc i) sum some more = outcome-token-then c (d + 1) limit r K S G (f i r) (omega arith) some (more i (omega arith))
 
-  pub opened-with : (f : ℕ → List Terminal → Reading B) → ts ≡ c ∷ next ts → d + room ≡ limit → ((b : B) × (y : List Mark) × K b y)
+  pub opened-with : (f : ℕ → List Terminal → Reading B) → ts ≡ c ∷ next ts → d + room ≡ limit → ((b : B) × (y : List Symbol) × K b y)
       → ((inner : ℕ) → d + 1 + inner ≡ limit → Outcome K S G limit (next ts) (f inner (next ts))) → Outcome (bind (one c (d + 1)) (λ _. K)) S G limit ts (and_then (open_at room ts) f)
   opened-with f e sum some more =
       subst (λ v. Outcome (bind (one c (d + 1)) (λ _. K)) S G limit v (and_then (open_at room v) f)) (sym e) (opened-with-cons f (next ts) room sum some more)
 
-  pub opened-after : (f : List Terminal → Reading B) → ts ≡ c ∷ next ts → d + room ≡ limit → ((b : B) × (y : List Mark) × K b y) → (0 < room → Outcome K S G limit (next ts) (f (next ts)))
+  pub opened-after : (f : List Terminal → Reading B) → ts ≡ c ∷ next ts → d + room ≡ limit → ((b : B) × (y : List Symbol) × K b y) → (0 < room → Outcome K S G limit (next ts) (f (next ts)))
       → Outcome (bind (one c (d + 1)) (λ _. K)) S G limit ts (and_then (open_at room ts) (λ _ r. f r))
   opened-after f e sum some more = opened-with (λ _ r. f r) e sum some (λ inner de. more (omega arith))
 
-  pub plain-after : (res : Reading B) → ts ≡ c ∷ next ts → ((b : B) × (y : List Mark) × K b y) → Outcome K S G limit (next ts) res → Outcome (bind (one c 0) (λ _. K)) S G limit ts res
+  pub plain-after : (res : Reading B) → ts ≡ c ∷ next ts → ((b : B) × (y : List Symbol) × K b y) → Outcome K S G limit (next ts) res → Outcome (bind (one c 0) (λ _. K)) S G limit ts res
   plain-after res e some more =
       subst (λ v. Outcome (bind (one c 0) (λ _. K)) S G limit v res) (sym e) (outcome-token-then c 0 limit (next ts) K S G res (omega arith) some more)
 
-  enter-by : (f : ℕ → List Terminal → Reading B) → 5 ≤ code c → d + room ≡ limit → ((b : B) × (y : List Mark) × K b y)
+  enter-by : (f : ℕ → List Terminal → Reading B) → 5 ≤ code c → d + room ≡ limit → ((b : B) × (y : List Symbol) × K b y)
       → ((inner : ℕ) → d + 1 + inner ≡ limit → Outcome K S G limit (next ts) (f inner (next ts)))
       → (b : Bool) → sees c ts ≡ b → Outcome (bind (one c (d + 1)) (λ _. K)) S G limit ts (and_then (if b then open_at room ts else Err (unexpected, ts)) f)
   enter-by f h sum some more true e = opened-with f (sees-cons c ts h e) sum some more
   enter-by f h sum some more false e =
       outcome-fail (bind (one c (d + 1)) (λ _. K)) S G limit ts (some-after c (d + 1) K some) (λ a m r k s g. sees-false c (peek (terms m ++ r)) ts e g (first-of c (d + 1) K a m r k))
 
-  -- this token, where it may stand or not
-  pub outcome-enter : (f : ℕ → List Terminal → Reading B) → 5 ≤ code c → d + room ≡ limit → ((b : B) × (y : List Mark) × K b y)
+  -- this terminal, where it may stand or not
+  pub outcome-enter : (f : ℕ → List Terminal → Reading B) → 5 ≤ code c → d + room ≡ limit → ((b : B) × (y : List Symbol) × K b y)
       → ((inner : ℕ) → d + 1 + inner ≡ limit → Outcome K S G limit (next ts) (f inner (next ts))) → Outcome (bind (one c (d + 1)) (λ _. K)) S G limit ts (and_then (enter c room ts) f)
   unfolding enter
   outcome-enter f h sum some more = enter-by f h sum some more (sees c ts) refl
 
--- ---- one token that stands for a value
+-- ---- one terminal that stands for a value
 
--- the tokens of the values of a kind, where the token tells the value
+-- the terminals of the values of a kind, where the terminal tells the value
 module _ {A : Type 0} (Good : A → Type 0) (token : A → Terminal) where
   abbrev pub a_token : Language A
   a_token a m = Good a × (m ≡ plain (token a) ∷ [])

@@ -6,7 +6,7 @@ use Rattle.jo_tree.specs.declared.keyword.Keyword.TheVariants as kw
 use Rattle.jo_grammar.specs.declared.terminal.Terminal.{Terminal}
 use Rattle.jo_grammar.specs.declared.terminal.Terminal.TheVariants as t
 use Rattle.jo_tree.specs.Trees.{Tree, Head, declares, begins}
-use Rattle.jo_grammar.specs.Expressions.{Mark, mark, word, Fits, spelling}
+use Rattle.jo_grammar.specs.Expressions.{Symbol, punct, word, MayStand, spelling}
 use Rattle.jo_grammar.specs.Statements.{FitOptional, FitAll, FitHead, optional, bindings, head, more_arguments, arguments, bracketed}
 use Rattle.jo_grammar.specs.Refusals.{Language, terms}
 use Rattle.jo_grammar.specs.inner.Read.{peek, next, punct_rank, rank, read}
@@ -22,24 +22,24 @@ use Rattle.jo_grammar.proofs.Declarations.{a_let, some_let, outcome-let}
 -- ---- an expression in round brackets, where d constructs are open
 
 abbrev pub in_brackets : ℕ → Language Tree
-in_brackets d e m = Fits true 1 e × (m ≡ bracketed d (spelling (d + 1) e))
+in_brackets d e m = MayStand true 1 e × (m ≡ bracketed d (spelling (d + 1) e))
 
 abbrev brackets_parts : ℕ → Language Tree
 brackets_parts d = bind (one (t.Punct p.OpenParen) (d + 1)) (λ _. an_ended (d + 1) p.CloseParen)
 
-brackets-to : (d : ℕ) (e : Tree) (m : List Mark) → brackets_parts d e m → in_brackets d e m
+brackets-to : (d : ℕ) (e : Tree) (m : List Symbol) → brackets_parts d e m → in_brackets d e m
 brackets-to d e m (u, x, y, l, k, w) = (k.0, w ∙ join l k.1)
 
-brackets-from : (d : ℕ) (e : Tree) (m : List Mark) → in_brackets d e m → brackets_parts d e m
-brackets-from d e m k = (tt, (t.Punct p.OpenParen, d + 1) ∷ [], spelling (d + 1) e ++ mark p.CloseParen ∷ [], refl, (k.0, refl), k.1)
+brackets-from : (d : ℕ) (e : Tree) (m : List Symbol) → in_brackets d e m → brackets_parts d e m
+brackets-from d e m k = (tt, (t.Punct p.OpenParen, d + 1) ∷ [], spelling (d + 1) e ++ punct p.CloseParen ∷ [], refl, (k.0, refl), k.1)
 
-pub some_brackets : (d : ℕ) → (e : Tree) × (m : List Mark) × in_brackets d e m
+pub some_brackets : (d : ℕ) → (e : Tree) × (m : List Symbol) × in_brackets d e m
 some_brackets d = let i = some_tree true 1 (d + 1) in (i.0, bracketed d (spelling (d + 1) i.0), (i.2.0, refl))
 
--- ---- an expression or none, and the token that ends it
+-- ---- an expression or none, and the terminal that ends it
 
 abbrev pub an_optional : Bool → ℕ → Punct → Language (Option Tree)
-an_optional ins d c v m = FitOptional ins v × (m ≡ optional d v ++ mark c ∷ [])
+an_optional ins d c v m = FitOptional ins v × (m ≡ optional d v ++ punct c ∷ [])
 
 abbrev only_end : Punct → Language (Option Tree)
 only_end c = bind (one (t.Punct c) 0) (λ _. nothing None)
@@ -47,24 +47,24 @@ only_end c = bind (one (t.Punct c) 0) (λ _. nothing None)
 abbrev tree_end : Bool → ℕ → Punct → Language (Option Tree)
 tree_end ins d c = closed_by ins d (t.Punct c) (λ e. nothing (Some e))
 
-end-to : (ins : Bool) (d : ℕ) (c : Punct) (v : Option Tree) (m : List Mark) → only_end c v m → an_optional ins d c v m
-end-to ins d c v m k = (subst (λ z. FitOptional ins z) (sym k.4.0) tt, k.5 ∙ join k.3 k.4.1 ∙ ap (λ z. optional d z ++ mark c ∷ []) (sym k.4.0))
+end-to : (ins : Bool) (d : ℕ) (c : Punct) (v : Option Tree) (m : List Symbol) → only_end c v m → an_optional ins d c v m
+end-to ins d c v m k = (subst (λ z. FitOptional ins z) (sym k.4.0) tt, k.5 ∙ join k.3 k.4.1 ∙ ap (λ z. optional d z ++ punct c ∷ []) (sym k.4.0))
 
-tree-to : (ins : Bool) (d : ℕ) (c : Punct) (v : Option Tree) (m : List Mark) → tree_end ins d c v m → an_optional ins d c v m
+tree-to : (ins : Bool) (d : ℕ) (c : Punct) (v : Option Tree) (m : List Symbol) → tree_end ins d c v m → an_optional ins d c v m
 tree-to ins d c v m (e, x, y, k, (u, x', y', l, (same, none), w'), w) =
-    (subst (λ z. FitOptional ins z) (sym same) k.0, w ∙ join k.1 (w' ∙ join l none) ∙ ap (λ z. optional d z ++ mark c ∷ []) (sym same))
+    (subst (λ z. FitOptional ins z) (sym same) k.0, w ∙ join k.1 (w' ∙ join l none) ∙ ap (λ z. optional d z ++ punct c ∷ []) (sym same))
 
-optional-split : (ins : Bool) (d : ℕ) (c : Punct) → begins_tree (t.Punct c) ≡ false → (v : Option Tree) (m : List Mark) (r : List Terminal) → an_optional ins d c v m
+optional-split : (ins : Bool) (d : ℕ) (c : Punct) → begins_tree (t.Punct c) ≡ false → (v : Option Tree) (m : List Symbol) (r : List Terminal) → an_optional ins d c v m
     → ((peek (terms m ++ r) ≡ t.Punct c) × only_end c v m) ⊎ ((peek (terms m ++ r) ≡ t.Punct c → ⊥) × tree_end ins d c v m)
-optional-split ins d c h None m r k = inl (ap (λ z. peek (terms z ++ r)) k.1, (tt, mark c ∷ [], [], refl, (refl, refl), k.1))
+optional-split ins d c h None m r k = inl (ap (λ z. peek (terms z ++ r)) k.1, (tt, punct c ∷ [], [], refl, (refl, refl), k.1))
 optional-split ins d c h (Some e) m r k =
     inr (
-      λ g. not-first (t.Punct c) h ins 1 d e (spelling d e) (terms (mark c ∷ []) ++ r) (k.0, refl) (ap peek (sym (terms-split (spelling d e) (mark c ∷ []) r)) ∙ (ap (λ z. peek (terms z ++ r)) (sym k.1) ∙ g)),
-      (e, spelling d e, mark c ∷ [], (k.0, refl), (tt, mark c ∷ [], [], refl, (refl, refl), refl), k.1),
+      λ g. not-first (t.Punct c) h ins 1 d e (spelling d e) (terms (punct c ∷ []) ++ r) (k.0, refl) (ap peek (sym (terms-split (spelling d e) (punct c ∷ []) r)) ∙ (ap (λ z. peek (terms z ++ r)) (sym k.1) ∙ g)),
+      (e, spelling d e, punct c ∷ [], (k.0, refl), (tt, punct c ∷ [], [], refl, (refl, refl), refl), k.1),
     )
 
-pub some_optional : (ins : Bool) (d : ℕ) (c : Punct) → (v : Option Tree) × (m : List Mark) × an_optional ins d c v m
-some_optional ins d c = (None, mark c ∷ [], (tt, refl))
+pub some_optional : (ins : Bool) (d : ℕ) (c : Punct) → (v : Option Tree) × (m : List Symbol) × an_optional ins d c v m
+some_optional ins d c = (None, punct c ∷ [], (tt, refl))
 
 -- ---- the first part of the head of a `for`
 
@@ -77,28 +77,28 @@ head_let d = bind (one (t.Keyword kw.Let) 0) (λ _. mapped declares (a_let false
 abbrev head_tree : ℕ → Language Head
 head_tree d = mapped begins (an_optional false d p.Semicolon)
 
-head-let-to : (d : ℕ) (h : Head) (m : List Mark) → head_let d h m → a_head d h m
+head-let-to : (d : ℕ) (h : Head) (m : List Symbol) → head_let d h m → a_head d h m
 head-let-to d h m (u, x, y, l, (bs, k, same), w) = (subst (λ z. FitHead z) (sym same) k.0, w ∙ join l k.1 ∙ ap (λ z. head d z) (sym same))
 
-head-tree-to : (d : ℕ) (h : Head) (m : List Mark) → head_tree d h m → a_head d h m
+head-tree-to : (d : ℕ) (h : Head) (m : List Symbol) → head_tree d h m → a_head d h m
 head-tree-to d h m (v, k, same) = (subst (λ z. FitHead z) (sym same) k.0, k.1 ∙ ap (λ z. head d z) (sym same))
 
-optional-no-let : (ins : Bool) (d : ℕ) (v : Option Tree) (r : List Terminal) → FitOptional ins v → peek (terms (optional d v ++ mark p.Semicolon ∷ []) ++ r) ≢ t.Keyword kw.Let
+optional-no-let : (ins : Bool) (d : ℕ) (v : Option Tree) (r : List Terminal) → FitOptional ins v → peek (terms (optional d v ++ punct p.Semicolon ∷ []) ++ r) ≢ t.Keyword kw.Let
 optional-no-let ins d None r k g = cc
-optional-no-let ins d (Some e) r k g = not-first (t.Keyword kw.Let) refl ins 1 d e (spelling d e) (terms (mark p.Semicolon ∷ []) ++ r) (k, refl) (ap peek (sym (terms-split (spelling d e) (mark p.Semicolon ∷ []) r)) ∙ g)
+optional-no-let ins d (Some e) r k g = not-first (t.Keyword kw.Let) refl ins 1 d e (spelling d e) (terms (punct p.Semicolon ∷ []) ++ r) (k, refl) (ap peek (sym (terms-split (spelling d e) (punct p.Semicolon ∷ []) r)) ∙ g)
 
-head-split : (d : ℕ) (h : Head) (m : List Mark) (r : List Terminal) → a_head d h m
+head-split : (d : ℕ) (h : Head) (m : List Symbol) (r : List Terminal) → a_head d h m
     → ((peek (terms m ++ r) ≡ t.Keyword kw.Let) × head_let d h m) ⊎ ((peek (terms m ++ r) ≡ t.Keyword kw.Let → ⊥) × head_tree d h m)
-head-split d (declares bs) m r k = inl (ap (λ z. peek (terms z ++ r)) k.1, (tt, word kw.Let ∷ [], bindings d bs ++ mark p.Semicolon ∷ [], refl, (bs, (k.0, refl), refl), k.1))
+head-split d (declares bs) m r k = inl (ap (λ z. peek (terms z ++ r)) k.1, (tt, word kw.Let ∷ [], bindings d bs ++ punct p.Semicolon ∷ [], refl, (bs, (k.0, refl), refl), k.1))
 head-split d (begins v) m r k = inr (λ g. optional-no-let false d v r k.0 (ap (λ z. peek (terms z ++ r)) (sym k.1) ∙ g), (v, k, refl))
 
-pub some_head : (d : ℕ) → (h : Head) × (m : List Mark) × a_head d h m
-some_head d = (begins None, mark p.Semicolon ∷ [], (tt, refl))
+pub some_head : (d : ℕ) → (h : Head) × (m : List Symbol) × a_head d h m
+some_head d = (begins None, punct p.Semicolon ∷ [], (tt, refl))
 
 -- ---- arguments after their bracket
 
 abbrev pub all_arguments : ℕ → Language (List Tree)
-all_arguments d es m = FitAll es × (m ≡ arguments d es ++ mark p.CloseParen ∷ [])
+all_arguments d es m = FitAll es × (m ≡ arguments d es ++ punct p.CloseParen ∷ [])
 
 abbrev no_arguments : Language (List Tree)
 no_arguments = bind (one (t.Punct p.CloseParen) 0) (λ _. nothing [])
@@ -106,29 +106,29 @@ no_arguments = bind (one (t.Punct p.CloseParen) 0) (λ _. nothing [])
 abbrev first_argument : ℕ → Language (List Tree)
 first_argument d = bind (at true 1 d) (λ e. elements_end (at true 1 d) (t.Punct p.CloseParen) (e ∷ []))
 
-more-to : (d : ℕ) (es : List Tree) (m : List Mark) → elements (at true 1 d) (t.Punct p.CloseParen) es m → FitAll es × (m ≡ more_arguments d es)
+more-to : (d : ℕ) (es : List Tree) (m : List Symbol) → elements (at true 1 d) (t.Punct p.CloseParen) es m → FitAll es × (m ≡ more_arguments d es)
 more-to d [] m k = (tt, k)
-more-to d (e ∷ es) m k = let f = more-to d es k.1 k.3 in ((k.2.0, f.0), k.4 ∙ ap (λ z. mark p.Comma ∷ z) (join k.2.1 f.1))
+more-to d (e ∷ es) m k = let f = more-to d es k.1 k.3 in ((k.2.0, f.0), k.4 ∙ ap (λ z. punct p.Comma ∷ z) (join k.2.1 f.1))
 
 more-from : (d : ℕ) (es : List Tree) → FitAll es → elements (at true 1 d) (t.Punct p.CloseParen) es (more_arguments d es)
 more-from d [] k = refl
 more-from d (e ∷ es) k = (spelling d e, more_arguments d es, (k.0, refl), more-from d es k.1, refl)
 
-none-to : (d : ℕ) (v : List Tree) (m : List Mark) → no_arguments v m → all_arguments d v m
-none-to d v m k = (subst (λ z. FitAll z) (sym k.4.0) tt, k.5 ∙ join k.3 k.4.1 ∙ ap (λ z. arguments d z ++ mark p.CloseParen ∷ []) (sym k.4.0))
+none-to : (d : ℕ) (v : List Tree) (m : List Symbol) → no_arguments v m → all_arguments d v m
+none-to d v m k = (subst (λ z. FitAll z) (sym k.4.0) tt, k.5 ∙ join k.3 k.4.1 ∙ ap (λ z. arguments d z ++ punct p.CloseParen ∷ []) (sym k.4.0))
 
-first-to : (d : ℕ) (v : List Tree) (m : List Mark) → first_argument d v m → all_arguments d v m
+first-to : (d : ℕ) (v : List Tree) (m : List Symbol) → first_argument d v m → all_arguments d v m
 first-to d v m (e, x, y, k, (es, z, q, same, w'), w) =
     let f = more-to d es z q in (
       subst (λ s. FitAll s) (sym same) (k.0, f.0),
-      w ∙ (join k.1 (w' ∙ ap (λ s. s ++ mark p.CloseParen ∷ []) f.1) ∙ (sym (append_assoc (spelling d e) (more_arguments d es) (mark p.CloseParen ∷ [])) ∙ ap (λ s. arguments d s ++ mark p.CloseParen ∷ []) (sym same))),
+      w ∙ (join k.1 (w' ∙ ap (λ s. s ++ punct p.CloseParen ∷ []) f.1) ∙ (sym (append_assoc (spelling d e) (more_arguments d es) (punct p.CloseParen ∷ [])) ∙ ap (λ s. arguments d s ++ punct p.CloseParen ∷ []) (sym same))),
     )
 
-arguments-split : (d : ℕ) (v : List Tree) (m : List Mark) (r : List Terminal) → all_arguments d v m
+arguments-split : (d : ℕ) (v : List Tree) (m : List Symbol) (r : List Terminal) → all_arguments d v m
     → ((peek (terms m ++ r) ≡ t.Punct p.CloseParen) × no_arguments v m) ⊎ ((peek (terms m ++ r) ≡ t.Punct p.CloseParen → ⊥) × first_argument d v m)
-arguments-split d [] m r k = inl (ap (λ z. peek (terms z ++ r)) k.1, (tt, mark p.CloseParen ∷ [], [], refl, (refl, refl), k.1))
+arguments-split d [] m r k = inl (ap (λ z. peek (terms z ++ r)) k.1, (tt, punct p.CloseParen ∷ [], [], refl, (refl, refl), k.1))
 arguments-split d (e ∷ es) m r k =
-    let end = mark p.CloseParen ∷ [] in
+    let end = punct p.CloseParen ∷ [] in
     let parts : m ≡ spelling d e ++ (more_arguments d es ++ end) = k.1 ∙ append_assoc (spelling d e) (more_arguments d es) end in
     inr (
       λ g. not-first (t.Punct p.CloseParen) refl true 1 d e (spelling d e) (terms (more_arguments d es ++ end) ++ r) (k.0.0, refl)
@@ -136,8 +136,8 @@ arguments-split d (e ∷ es) m r k =
       (e, spelling d e, more_arguments d es ++ end, (k.0.0, refl), (es, more_arguments d es, more-from d es k.0.1, refl, refl), parts),
     )
 
-pub some_arguments : (d : ℕ) → (es : List Tree) × (m : List Mark) × all_arguments d es m
-some_arguments d = ([], mark p.CloseParen ∷ [], (tt, refl))
+pub some_arguments : (d : ℕ) → (es : List Tree) × (m : List Symbol) × all_arguments d es m
+some_arguments d = ([], punct p.CloseParen ∷ [], (tt, refl))
 
 -- ---- how they are read
 

@@ -1,10 +1,10 @@
--- The whole of the tokens of a script is answered exactly.
+-- The whole of the terminals of a script is answered exactly.
 use Rattle.std.proofs.Common.{◌≡◌, ◌≢◌, inl, inr, false, zero, suc, ℕ, ◌+◌, ◌≤◌, ◌<◌, List, [], ◌∷◌, ◌++◌, length, Ok, Err, refl, sym, ◌∙◌, ap, subst, arith, length-append}
 use Rattle.jo_tree.specs.declared.keyword.Keyword.TheVariants as kw
 use Rattle.jo_grammar.specs.declared.terminal.Terminal.{Terminal}
 use Rattle.jo_grammar.specs.declared.terminal.Terminal.TheVariants as t
 use Rattle.jo_tree.specs.Trees.{Items, no_items}
-use Rattle.jo_grammar.specs.Expressions.{Mark}
+use Rattle.jo_grammar.specs.Expressions.{Symbol}
 use Rattle.jo_grammar.specs.Statements.{FitItems, items, IsScript}
 use Rattle.jo_grammar.specs.Refusals.{Language, terms, Within, IsAccepted, Fault, IsRefused}
 use Rattle.jo_grammar.specs.inner.Read.{Reading, peek}
@@ -28,11 +28,11 @@ text-longer : (x : List Terminal) (c : Terminal) (q : List Terminal) → some_te
 text-longer [] c q e = cc
 text-longer (b ∷ x) c q e = cc
 
-rest-item : (found v : Items) (m : List Mark) → script_rest found v m → some_text (terms m) → an_item false 0 [] found v m
+rest-item : (found v : Items) (m : List Symbol) → script_rest found v m → some_text (terms m) → an_item false 0 [] found v m
 rest-item found v m k h = elim (items-split false 0 [] found v m k) [ inl q ↦ absurd (h (ap terms q.1)) | inr q ↦ q ]
 
 -- no item begins with the end or with `else`
-rest-first : (c : Terminal) → begins_item c ≡ false → c ≢ t.End → (found v : Items) (m : List Mark) → script_rest found v m → peek (terms m) ≡ c → ⊥
+rest-first : (c : Terminal) → begins_item c ≡ false → c ≢ t.End → (found v : Items) (m : List Symbol) → script_rest found v m → peek (terms m) ≡ c → ⊥
 rest-first c h other found v m k g = elim (items-split false 0 [] found v m k) [
   | inl q ↦ other (sym g ∙ ap (λ z. peek (terms z)) q.1)
   | inr q ↦ item-not-first c h false 0 [] found v m [] q (ap peek (list-end (terms m)) ∙ g)
@@ -51,7 +51,7 @@ rest-end found limit = (
 )
 
 module _ (limit : ℕ) where
-  rest-follow : (found : Items) (x : Item) (y : List Mark) (v : Items) (z : List Mark) → item_language false 0 x y → script_rest (with_item found x) v z → OpenItem x (peek (terms z))
+  rest-follow : (found : Items) (x : Item) (y : List Symbol) (v : Items) (z : List Symbol) → item_language false 0 x y → script_rest (with_item found x) v z → OpenItem x (peek (terms z))
   rest-follow found x y v z l k = open-item x (peek (terms z)) (λ e. rest-first (t.Keyword kw.Else) refl (λ e. cc) (with_item found x) v z k e)
 
   -- an item and the rest
@@ -77,10 +77,10 @@ module _ (limit : ℕ) where
 
 -- ---- the whole, and no other answer
 
-rest-script : (s : Items) (m : List Mark) → script_rest no_items s m → IsScript s m
+rest-script : (s : Items) (m : List Symbol) → script_rest no_items s m → IsScript s m
 rest-script s m (is, f, same, e) = (subst (λ v. FitItems false v) (sym same) f, e ∙ (nil-right (items 0 is) ∙ ap (λ v. items 0 v) (sym same)))
 
-script-rest : (s : Items) (m : List Mark) → IsScript s m → script_rest no_items s m
+script-rest : (s : Items) (m : List Symbol) → IsScript s m → script_rest no_items s m
 script-rest s m k = (s, k.0, refl, k.1 ∙ sym (nil-right (items 0 s)))
 
 pub script-answers : (limit : ℕ) (ts : List Terminal) → Answers IsScript limit ts (whole_script limit ts)
@@ -96,7 +96,7 @@ pub script-refused : (limit : ℕ) (ts : List Terminal) (f : Fault) (r : List Te
 script-refused limit ts f r e = subst (λ v. Answers IsScript limit ts v) e (script-answers limit ts)
 
 -- a script that keeps within the limit is answered
-pub script-kept : (limit : ℕ) (ts : List Terminal) (s : Items) (m : List Mark) → IsScript s m → terms m ≡ ts → Within limit m → whole_script limit ts ≡ Ok s
+pub script-kept : (limit : ℕ) (ts : List Terminal) (s : Items) (m : List Symbol) → IsScript s m → terms m ≡ ts → Within limit m → whole_script limit ts ≡ Ok s
 script-kept limit ts s m k same within = answer-kept IsScript limit ts s m k same within (whole_script limit ts) (script-answers limit ts)
 
 pub accepted-script : (limit : ℕ) (ts : List Terminal) (s : Items) → IsAccepted IsScript limit ts s → whole_script limit ts ≡ Ok s

@@ -1,7 +1,7 @@
 -- What is answered for terminals in two parts, of which the first is read exactly.
 use Rattle.std.proofs.Common.{◌≡◌, ℕ, List, [], ◌∷◌, ◌++◌, Result, Ok, Err, refl, sym, ◌∙◌, ap, subst, append_assoc}
 use Rattle.jo_grammar.specs.declared.terminal.Terminal.{Terminal}
-use Rattle.jo_grammar.specs.Expressions.{Mark}
+use Rattle.jo_grammar.specs.Expressions.{Symbol}
 use Rattle.jo_grammar.specs.Refusals.{Language, terms, BeginsWithin, Never, OpensTooMany, EachOpensTooMany, Fault, unexpected, too_deep, IsRefused}
 use Rattle.jo_grammar.specs.inner.Read.{peek}
 use Rattle.jo_grammar.proofs.Outcome.{terms-append, Within-append, cancel, Stops, Whole, Stuck, Deep, Failing, bind}
@@ -10,8 +10,8 @@ use Rattle.jo_grammar.proofs.Accepted.{list-end, Answers}
 -- ---- another language with the same spellings here
 
 -- the second language has the spellings of the first, and of those that are good no others
-module _ {A : Type 0} (L L' : Language A) (Good : List Terminal → Type 0) (longer : (x : List Terminal) (c : Terminal) (q : List Terminal) → Good (x ++ c ∷ q)) (to : (a : A) (m : List Mark) → L a m → L' a m)
-    (from : (a : A) (m : List Mark) → L' a m → Good (terms m) → L a m) (limit : ℕ) where
+module _ {A : Type 0} (L L' : Language A) (Good : List Terminal → Type 0) (longer : (x : List Terminal) (c : Terminal) (q : List Terminal) → Good (x ++ c ∷ q)) (to : (a : A) (m : List Symbol) → L a m → L' a m)
+    (from : (a : A) (m : List Symbol) → L' a m → Good (terms m) → L a m) (limit : ℕ) where
   same-begins : (ts : List Terminal) → BeginsWithin L limit ts → BeginsWithin L' limit ts
   same-begins ts b = (b.0, b.1, b.2, to b.0 (b.1 ++ b.2) b.3, b.4, b.5)
 
@@ -38,11 +38,11 @@ peek-list : (x : List Terminal) (c : Terminal) (q r : List Terminal) → peek (x
 peek-list [] c q r = refl
 peek-list (b ∷ x) c q r = refl
 
-module _ {A B : Type 0} (L : Language A) (S G : Stops A) (K : A → Language B) (follow : (a : A) (x : List Mark) (b : B) (y : List Mark) → L a x → K a b y → S a (peek (terms y)))
-    (some : (a : A) (x : List Mark) → L a x → (b : B) × (y : List Mark) × K a b y) (limit : ℕ) (ts : List Terminal) where
+module _ {A B : Type 0} (L : Language A) (S G : Stops A) (K : A → Language B) (follow : (a : A) (x : List Symbol) (b : B) (y : List Symbol) → L a x → K a b y → S a (peek (terms y)))
+    (some : (a : A) (x : List Symbol) → L a x → (b : B) × (y : List Symbol) × K a b y) (limit : ℕ) (ts : List Terminal) where
   module _ (a : A) (r : List Terminal) (w : Whole L S G limit ts a r) where
     -- what another spelling says once its first part is known
-    first-part : (r'' : List Terminal) → peek r'' ≡ peek r → (b : B) (m : List Mark) → bind L K b m → terms m ≡ terms w.word ++ r'' → (y : List Mark) × K a b y × (m ≡ w.word ++ y) × (terms y ≡ r'')
+    first-part : (r'' : List Terminal) → peek r'' ≡ peek r → (b : B) (m : List Symbol) → bind L K b m → terms m ≡ terms w.word ++ r'' → (y : List Symbol) × K a b y × (m ≡ w.word ++ y) × (terms y ≡ r'')
     first-part r'' same b m k e =
         let x = k.1 in
         let y = k.2 in
@@ -52,7 +52,7 @@ module _ {A B : Type 0} (L : Language A) (S G : Stops A) (K : A → Language B) 
         (y, subst (λ v. K v b y) one.0 k.4, k.5 ∙ ap (λ v. v ++ y) one.1, rest)
 
     -- the first part stands before
-    in-front : (b : B) (y : List Mark) → K a b y → bind L K b (w.word ++ y)
+    in-front : (b : B) (y : List Symbol) → K a b y → bind L K b (w.word ++ y)
     in-front b y k = (a, w.word, y, w.spelled, k, refl)
 
     begins-front : (before : List Terminal) → BeginsWithin (K a) limit before → BeginsWithin (bind L K) limit (terms w.word ++ before)
@@ -117,7 +117,7 @@ module _ {A B : Type 0} (L : Language A) (S G : Stops A) (K : A → Language B) 
     answers-then (Err (too_deep, c ∷ r2)) h = (terms w.word ++ h.0, front-of h.0 (c ∷ r2) h.1, deep-front h.0 c r2 h.2, each-front h.0 c r2 h.1 h.3)
 
   -- where the first part is refused
-  other-part : (w : List Mark) (b : B) (m : List Mark) (k : bind L K b m) (r'' : List Terminal) → terms m ≡ terms w ++ r'' → terms k.1 ++ terms k.2 ≡ terms w ++ r''
+  other-part : (w : List Symbol) (b : B) (m : List Symbol) (k : bind L K b m) (r'' : List Terminal) → terms m ≡ terms w ++ r'' → terms k.1 ++ terms k.2 ≡ terms w ++ r''
   other-part w b m k r'' e = sym (terms-append k.1 k.2) ∙ (ap terms (sym k.5) ∙ e)
 
   dead-never : (r : List Terminal) (h : Stuck L S limit ts r) → Never (bind L K) (terms h.word) r

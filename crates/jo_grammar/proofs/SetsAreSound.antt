@@ -4,7 +4,7 @@ use Rattle.jo_value.specs.declared.limits.TheConstants.{MOST_INPUT, MOST_OPEN, M
 use Rattle.jo_value.specs.Texts.{Table}
 use Rattle.jo_lex.specs.declared.token.Token.{Token}
 use Rattle.jo_tree.specs.Trees.{Items}
-use Rattle.jo_grammar.specs.Expressions.{Mark}
+use Rattle.jo_grammar.specs.Expressions.{Symbol}
 use Rattle.jo_grammar.specs.Statements.{items, IsScript}
 use Rattle.jo_grammar.specs.Refusals.{terms, Within, IsAccepted}
 use Rattle.jo_grammar.specs.Terminals.{terminals_of}
@@ -13,7 +13,7 @@ use Rattle.jo_grammar.specs.Sound.{IsSound}
 use Rattle.jo_grammar.specs.Cuts.{sections_of}
 use Rattle.jo_grammar.specs.Sets.{AreScripts, faults_of_all, IsAcceptedSet}
 use Rattle.jo_grammar.specs.Soundness.{AreSound}
-use Rattle.jo_grammar.proofs.GoodMarks.{AreGood, AreFine}
+use Rattle.jo_grammar.proofs.GoodSymbols.{AreGood, AreFine}
 use Rattle.jo_grammar.proofs.SpelledLengths.{items_few}
 use Rattle.jo_grammar.proofs.SpelledTrees.{suit_items}
 use Rattle.jo_grammar.proofs.SectionsInInput.{sections-short, sections-some}
@@ -23,12 +23,12 @@ use Rattle.jo_grammar.proofs.TerminalsInTable.{terminals-good, terminals-few}
 
 -- ---- one script
 
-terms-many : (ms : List Mark) → length (terms ms) ≡ length ms
+terms-many : (ms : List Symbol) → length (terms ms) ≡ length ms
 terms-many [] = refl
 terms-many (m ∷ ms) = ap suc (terms-many ms)
 
 -- what is spelled by good tokens is good
-spelled-fine : (texts : Table) (most : ℕ) (tokens : List Token) (ms : List Mark) → most ≤ MOST_INPUT → IsGoodList texts most tokens → terms ms ≡ terminals_of texts tokens → AreFine texts ms
+spelled-fine : (texts : Table) (most : ℕ) (tokens : List Token) (ms : List Symbol) → most ≤ MOST_INPUT → IsGoodList texts most tokens → terms ms ≡ terminals_of texts tokens → AreFine texts ms
 spelled-fine texts most tokens ms le h e = record {
   good = subst (AreGood texts) (sym e) (terminals-good texts tokens h.good);
   few = omega (arith, le, h.few, terms-many ms, ap length e, ap (λ ts. length (terminals_of texts ts)) h.tokens_are, terminals-few texts h.before h.place);

@@ -4,10 +4,10 @@ use Rattle.jo_value.specs.declared.limits.TheConstants.{MOST_INPUT}
 use Rattle.jo_value.specs.Texts.{Table}
 use Rattle.jo_lex.specs.declared.punct.Punct.TheVariants as p
 use Rattle.jo_tree.specs.Trees.{Tree, number, literal, constant, variable, group, object, cas, member, unary, delete, chain, choose, assign, Statement, empty, block, when, either, while, for, break, continue, print, print_names, evaluate, Props, no_props, prop, Accesses, no_accesses, field, index, Links, no_links, link, Binding, Head, declares, begins, Items, no_items, declare, perform}
-use Rattle.jo_grammar.specs.Expressions.{Mark, mark, spelling, props, more_props, accesses, links}
+use Rattle.jo_grammar.specs.Expressions.{Symbol, punct, spelling, props, more_props, accesses, links}
 use Rattle.jo_grammar.specs.Statements.{optional, initial, binding, bindings, more_bindings, declaration, head, arguments, more_arguments, bracketed, statement, items}
 use Rattle.jo_grammar.specs.Sound.{Suits, SuitProps, SuitAccesses, SuitLinks, SuitsOptional, SuitAll, SuitBindings, SuitsDeclaration, SuitsHead, SuitsStatement, SuitItems}
-use Rattle.jo_grammar.proofs.GoodMarks.{AreFine, named, keyed, front, back, at_head, after}
+use Rattle.jo_grammar.proofs.GoodSymbols.{AreFine, named, keyed, front, back, at_head, after}
 use Rattle.jo_grammar.proofs.SpelledLengths.{props_few, accesses_few, links_few, bindings_few, arguments_few, items_few}
 
 at_most : (m n : ℕ) → m ≤ n → n ≤ MOST_INPUT → m ≤ MOST_INPUT
@@ -114,7 +114,7 @@ module _ (texts : Table) where
   suits_head d (begins e) h = suits_optional d e (front texts (optional d e) _ h)
 
   -- what stands in round brackets
-  inside : (d : ℕ) (m rest : List Mark) → AreFine texts (bracketed d m ++ rest) → AreFine texts m
+  inside : (d : ℕ) (m rest : List Symbol) → AreFine texts (bracketed d m ++ rest) → AreFine texts m
   inside d m rest h = front texts m _ (after texts _ _ (front texts (bracketed d m) rest h))
 
   -- ---- statements
@@ -141,7 +141,7 @@ module _ (texts : Table) where
     suits_statement d (for first c u s) h =
         let k = after texts _ _ h in
         let n = d + 1 + 1 in
-        let m = head n first ++ (optional n c ++ mark p.Semicolon ∷ optional n u) in
+        let m = head n first ++ (optional n c ++ punct p.Semicolon ∷ optional n u) in
         let parts = inside (d + 1) m _ k in
         let steps = back texts (head n first) _ parts in (
           suits_head n first (front texts (head n first) _ parts),

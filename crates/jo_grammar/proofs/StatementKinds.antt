@@ -1,4 +1,4 @@
--- The kinds of statements, each by its first token and in the parts that are read.
+-- The kinds of statements, each by its first terminal and in the parts that are read.
 use Rattle.std.proofs.Common.{◌≡◌, ◌≢◌, ◌⊎◌, inl, inr, Bool, true, ℕ, ◌+◌, List, [], ◌∷◌, ◌++◌, Option, refl, sym, ◌∙◌, ap, subst}
 use Rattle.jo_lex.specs.declared.punct.Punct.TheVariants as p
 use Rattle.jo_tree.specs.declared.keyword.Keyword.{Keyword}
@@ -6,7 +6,7 @@ use Rattle.jo_tree.specs.declared.keyword.Keyword.TheVariants as kw
 use Rattle.jo_grammar.specs.declared.terminal.Terminal.{Terminal}
 use Rattle.jo_grammar.specs.declared.terminal.Terminal.TheVariants as t
 use Rattle.jo_tree.specs.Trees.{Tree, Head, Statement, empty, block, when, either, while, for, break, continue, print, print_names, evaluate, no_items}
-use Rattle.jo_grammar.specs.Expressions.{Mark, mark, word, Fits, spelling, first}
+use Rattle.jo_grammar.specs.Expressions.{Symbol, punct, word, MayStand, spelling, first}
 use Rattle.jo_grammar.specs.Statements.{FitStatement, IsClosed, optional, head, arguments, bracketed, statement, items}
 use Rattle.jo_grammar.specs.Refusals.{Language, terms}
 use Rattle.jo_grammar.specs.inner.Read.{peek}
@@ -19,7 +19,7 @@ use Rattle.jo_grammar.proofs.Items.{items_end, brace}
 -- ---- the languages, where d constructs are open
 
 abbrev pub an_empty : Language Statement
-an_empty v m = (v ≡ empty) × (m ≡ mark p.Semicolon ∷ [])
+an_empty v m = (v ≡ empty) × (m ≡ punct p.Semicolon ∷ [])
 
 abbrev pub a_block : Bool → ℕ → Language Statement
 a_block loops d = bind (one (t.Punct p.OpenBrace) (d + 1)) (λ _. mapped block (items_end loops (d + 1) brace no_items))
@@ -90,9 +90,9 @@ abbrev pub a_run : ℕ → Language Statement
 a_run d = closed_by true d (t.Punct p.Semicolon) (λ e. nothing (evaluate e))
 
 abbrev pub a_run_flat : ℕ → Language Statement
-a_run_flat d v m = (e : Tree) × Fits true 1 e × (v ≡ evaluate e) × (m ≡ spelling d e ++ mark p.Semicolon ∷ [])
+a_run_flat d v m = (e : Tree) × MayStand true 1 e × (v ≡ evaluate e) × (m ≡ spelling d e ++ punct p.Semicolon ∷ [])
 
--- the kind that begins with the token
+-- the kind that begins with the terminal
 abbrev pub kind : Bool → ℕ → Terminal → Language Statement
 kind loops d (t.Keyword kw.If) v m = an_if loops d v m
 kind loops d (t.Keyword kw.While) v m = a_while d v m
@@ -107,8 +107,8 @@ kind loops d _ v m = a_run_flat d v m
 
 -- ---- from a statement to its kind
 
--- a token that begins an expression and is no brace begins no other kind
-run-kind : (loops : Bool) (d : ℕ) (c : Terminal) (v : Statement) (m : List Mark) → begins_tree c ≡ true → c ≢ t.Punct p.OpenBrace → a_run_flat d v m → kind loops d c v m
+-- a terminal that begins an expression and is no brace begins no other kind
+run-kind : (loops : Bool) (d : ℕ) (c : Terminal) (v : Statement) (m : List Symbol) → begins_tree c ≡ true → c ≢ t.Punct p.OpenBrace → a_run_flat d v m → kind loops d c v m
 run-kind loops d (t.Keyword kw.If) v m h away k = cc
 run-kind loops d (t.Keyword kw.While) v m h away k = cc
 run-kind loops d (t.Keyword kw.For) v m h away k = cc
@@ -120,24 +120,24 @@ run-kind loops d (t.Punct p.Semicolon) v m h away k = cc
 run-kind loops d (t.Punct p.OpenBrace) v m h away k = absurd (away refl)
 run-kind loops d _ v m h away k = k
 
-brackets-then : (d : ℕ) (e : Tree) (r : List Mark) (K : Tree → Language Statement) (v : Statement) → Fits true 1 e → K e v r → bind (in_brackets d) K v (bracketed d (spelling (d + 1) e) ++ r)
+brackets-then : (d : ℕ) (e : Tree) (r : List Symbol) (K : Tree → Language Statement) (v : Statement) → MayStand true 1 e → K e v r → bind (in_brackets d) K v (bracketed d (spelling (d + 1) e) ++ r)
 brackets-then d e r K v f k = (e, bracketed d (spelling (d + 1) e), r, (f, refl), k, refl)
 
 -- the words of a `for` as they are read
-words-optional : (c u r : List Mark) (x y : Mark) → ((c ++ x ∷ u) ++ y ∷ []) ++ r ≡ (c ++ x ∷ []) ++ ((u ++ y ∷ []) ++ r)
+words-optional : (c u r : List Symbol) (x y : Symbol) → ((c ++ x ∷ u) ++ y ∷ []) ++ r ≡ (c ++ x ∷ []) ++ ((u ++ y ∷ []) ++ r)
 words-optional [] u r x y = refl
 words-optional (a ∷ c) u r x y = ap (λ v. a ∷ v) (words-optional c u r x y)
 
-words-for : (h c u r : List Mark) (x y : Mark) → ((h ++ (c ++ x ∷ u)) ++ y ∷ []) ++ r ≡ h ++ ((c ++ x ∷ []) ++ ((u ++ y ∷ []) ++ r))
+words-for : (h c u r : List Symbol) (x y : Symbol) → ((h ++ (c ++ x ∷ u)) ++ y ∷ []) ++ r ≡ h ++ ((c ++ x ∷ []) ++ ((u ++ y ∷ []) ++ r))
 words-for [] c u r x y = words-optional c u r x y
 words-for (a ∷ h) c u r x y = ap (λ v. a ∷ v) (words-for h c u r x y)
 
-abbrev for_words : ℕ → Head → Option Tree → Option Tree → List Mark → List Mark
-for_words d h c u r = head (d + 1) h ++ ((optional (d + 1) c ++ mark p.Semicolon ∷ []) ++ ((optional (d + 1) u ++ mark p.CloseParen ∷ []) ++ r))
+abbrev for_words : ℕ → Head → Option Tree → Option Tree → List Symbol → List Symbol
+for_words d h c u r = head (d + 1) h ++ ((optional (d + 1) c ++ punct p.Semicolon ∷ []) ++ ((optional (d + 1) u ++ punct p.CloseParen ∷ []) ++ r))
 
-for-words : (d : ℕ) (h : Head) (c u : Option Tree) (r : List Mark)
-    → bracketed d (head (d + 1) h ++ (optional (d + 1) c ++ mark p.Semicolon ∷ optional (d + 1) u)) ++ r ≡ (t.Punct p.OpenParen, d + 1) ∷ for_words d h c u r
-for-words d h c u r = ap (λ v. (t.Punct p.OpenParen, d + 1) ∷ v) (words-for (head (d + 1) h) (optional (d + 1) c) (optional (d + 1) u) r (mark p.Semicolon) (mark p.CloseParen))
+for-words : (d : ℕ) (h : Head) (c u : Option Tree) (r : List Symbol)
+    → bracketed d (head (d + 1) h ++ (optional (d + 1) c ++ punct p.Semicolon ∷ optional (d + 1) u)) ++ r ≡ (t.Punct p.OpenParen, d + 1) ∷ for_words d h c u r
+for-words d h c u r = ap (λ v. (t.Punct p.OpenParen, d + 1) ∷ v) (words-for (head (d + 1) h) (optional (d + 1) c) (optional (d + 1) u) r (punct p.Semicolon) (punct p.CloseParen))
 
 for-kind : (d : ℕ) (h : Head) (c u : Option Tree) (s : Statement) → FitStatement true (for h c u s) → a_for d (for h c u s) (statement d (for h c u s))
 for-kind d h c u s f = (
@@ -153,14 +153,14 @@ for-kind d h c u s f = (
     (
       h,
       head (d + 1 + 1) h,
-      (optional (d + 1 + 1) c ++ mark p.Semicolon ∷ []) ++ ((optional (d + 1 + 1) u ++ mark p.CloseParen ∷ []) ++ statement (d + 1) s),
+      (optional (d + 1 + 1) c ++ punct p.Semicolon ∷ []) ++ ((optional (d + 1 + 1) u ++ punct p.CloseParen ∷ []) ++ statement (d + 1) s),
       (f.0, refl),
       (
         c,
-        optional (d + 1 + 1) c ++ mark p.Semicolon ∷ [],
-        (optional (d + 1 + 1) u ++ mark p.CloseParen ∷ []) ++ statement (d + 1) s,
+        optional (d + 1 + 1) c ++ punct p.Semicolon ∷ [],
+        (optional (d + 1 + 1) u ++ punct p.CloseParen ∷ []) ++ statement (d + 1) s,
         (f.1, refl),
-        (u, optional (d + 1 + 1) u ++ mark p.CloseParen ∷ [], statement (d + 1) s, (f.2, refl), (s, (f.3, refl), refl), refl),
+        (u, optional (d + 1 + 1) u ++ punct p.CloseParen ∷ [], statement (d + 1) s, (f.2, refl), (s, (f.3, refl), refl), refl),
         refl,
       ),
       refl,
@@ -199,19 +199,19 @@ kind-here loops d (while c s) r f = (
   refl,
 )
 kind-here loops d (for h c u s) r f = for-kind d h c u s f
-kind-here loops d break r f = (f, (tt, word kw.Break ∷ [], mark p.Semicolon ∷ [], refl, (tt, mark p.Semicolon ∷ [], [], refl, (refl, refl), refl), refl))
-kind-here loops d continue r f = (f, (tt, word kw.Continue ∷ [], mark p.Semicolon ∷ [], refl, (tt, mark p.Semicolon ∷ [], [], refl, (refl, refl), refl), refl))
+kind-here loops d break r f = (f, (tt, word kw.Break ∷ [], punct p.Semicolon ∷ [], refl, (tt, punct p.Semicolon ∷ [], [], refl, (refl, refl), refl), refl))
+kind-here loops d continue r f = (f, (tt, word kw.Continue ∷ [], punct p.Semicolon ∷ [], refl, (tt, punct p.Semicolon ∷ [], [], refl, (refl, refl), refl), refl))
 kind-here loops d (print es) r f = (
   tt,
   word kw.Print ∷ [],
-  bracketed d (arguments (d + 1) es) ++ mark p.Semicolon ∷ [],
+  bracketed d (arguments (d + 1) es) ++ punct p.Semicolon ∷ [],
   refl,
   (
     tt,
     (t.Punct p.OpenParen, d + 1) ∷ [],
-    (arguments (d + 1) es ++ mark p.CloseParen ∷ []) ++ mark p.Semicolon ∷ [],
+    (arguments (d + 1) es ++ punct p.CloseParen ∷ []) ++ punct p.Semicolon ∷ [],
     refl,
-    (es, arguments (d + 1) es ++ mark p.CloseParen ∷ [], mark p.Semicolon ∷ [], (f, refl), (tt, mark p.Semicolon ∷ [], [], refl, (refl, refl), refl), refl),
+    (es, arguments (d + 1) es ++ punct p.CloseParen ∷ [], punct p.Semicolon ∷ [], (f, refl), (tt, punct p.Semicolon ∷ [], [], refl, (refl, refl), refl), refl),
     refl,
   ),
   refl,
@@ -219,21 +219,21 @@ kind-here loops d (print es) r f = (
 kind-here loops d (print_names e) r f = (
   tt,
   word kw.PrintNames ∷ [],
-  bracketed d (spelling (d + 1) e) ++ mark p.Semicolon ∷ [],
+  bracketed d (spelling (d + 1) e) ++ punct p.Semicolon ∷ [],
   refl,
-  brackets-then d e (mark p.Semicolon ∷ []) (λ e. semicolon (print_names e)) (print_names e) f (tt, mark p.Semicolon ∷ [], [], refl, (refl, refl), refl),
+  brackets-then d e (punct p.Semicolon ∷ []) (λ e. semicolon (print_names e)) (print_names e) f (tt, punct p.Semicolon ∷ [], [], refl, (refl, refl), refl),
   refl,
 )
 kind-here loops d (evaluate e) r f =
-    subst (λ c. kind loops d c (evaluate e) (spelling d e ++ mark p.Semicolon ∷ [])) (sym (run-is d e r))
-    (run-kind loops d (first e) (evaluate e) (spelling d e ++ mark p.Semicolon ∷ []) (first-begins true 1 e f.0) f.1 (e, f.0, refl, refl))
+    subst (λ c. kind loops d c (evaluate e) (spelling d e ++ punct p.Semicolon ∷ [])) (sym (run-is d e r))
+    (run-kind loops d (first e) (evaluate e) (spelling d e ++ punct p.Semicolon ∷ []) (first-begins true 1 e f.0) f.1 (e, f.0, refl, refl))
 
-pub kind-at : (loops : Bool) (d : ℕ) (v : Statement) (m : List Mark) (r : List Terminal) → statement_language loops d v m → kind loops d (peek (terms m ++ r)) v m
+pub kind-at : (loops : Bool) (d : ℕ) (v : Statement) (m : List Symbol) (r : List Terminal) → statement_language loops d v m → kind loops d (peek (terms m ++ r)) v m
 kind-at loops d v m r k = subst (λ w. kind loops d (peek (terms w ++ r)) v w) (sym k.1) (kind-here loops d v r k.0)
 
 -- ---- from a kind to its statement
 
-module _ (loops : Bool) (d : ℕ) (v : Statement) (m : List Mark) where
+module _ (loops : Bool) (d : ℕ) (v : Statement) (m : List Symbol) where
   -- a statement with these words
   is-statement : (s : Statement) → v ≡ s → FitStatement loops s → m ≡ statement d s → statement_language loops d v m
   is-statement s same f e = (subst (λ z. FitStatement loops z) (sym same) f, e ∙ ap (λ z. statement d z) (sym same))
@@ -275,7 +275,7 @@ module _ (loops : Bool) (d : ℕ) (v : Statement) (m : List Mark) where
   run-flat (e, x, y, k, (u, x1, y1, l1, (same, none), e1), f) = (e, k.0, same, f ∙ join k.1 (e1 ∙ join l1 none))
 
   pub flat-run : a_run_flat d v m → a_run d v m
-  flat-run (e, f, same, w) = (e, spelling d e, mark p.Semicolon ∷ [], (f, refl), (tt, mark p.Semicolon ∷ [], [], refl, (same, refl), refl), w)
+  flat-run (e, f, same, w) = (e, spelling d e, punct p.Semicolon ∷ [], (f, refl), (tt, punct p.Semicolon ∷ [], [], refl, (same, refl), refl), w)
 
   pub run-to : (r : List Terminal) → peek (terms m ++ r) ≢ t.Punct p.OpenBrace → a_run d v m → statement_language loops d v m
   run-to r away k =

@@ -7,7 +7,7 @@ use Rattle.jo_tree.specs.declared.keyword.Keyword.TheVariants as kw
 use Rattle.jo_grammar.specs.declared.terminal.Terminal.{Terminal}
 use Rattle.jo_grammar.specs.declared.terminal.Terminal.TheVariants as t
 use Rattle.jo_tree.specs.Trees.{Tree, Head, Statement, empty, block, when, either, while, for, break, continue, print, print_names, evaluate, no_items}
-use Rattle.jo_grammar.specs.Expressions.{Mark, mark}
+use Rattle.jo_grammar.specs.Expressions.{Symbol, punct}
 use Rattle.jo_grammar.specs.Statements.{IsClosed}
 use Rattle.jo_grammar.specs.Refusals.{Language, terms}
 use Rattle.jo_grammar.specs.inner.Read.{Reading, and_then, peek, next, sees, expect, read}
@@ -23,50 +23,50 @@ use Rattle.jo_grammar.proofs.StatementKinds.{an_empty, a_block, semicolon, a_lea
 
 -- ---- examples
 
-pub some_statement : (loops : Bool) (d : ℕ) → (s : Statement) × (m : List Mark) × statement_language loops d s m
-some_statement loops d = (empty, mark p.Semicolon ∷ [], (tt, refl))
+pub some_statement : (loops : Bool) (d : ℕ) → (s : Statement) × (m : List Symbol) × statement_language loops d s m
+some_statement loops d = (empty, punct p.Semicolon ∷ [], (tt, refl))
 
-some_semicolon : (s : Statement) → (v : Statement) × (m : List Mark) × semicolon s v m
-some_semicolon s = (s, mark p.Semicolon ∷ [], (tt, mark p.Semicolon ∷ [], [], refl, (refl, refl), refl))
+some_semicolon : (s : Statement) → (v : Statement) × (m : List Symbol) × semicolon s v m
+some_semicolon s = (s, punct p.Semicolon ∷ [], (tt, punct p.Semicolon ∷ [], [], refl, (refl, refl), refl))
 
-some_then : (loops : Bool) (d : ℕ) (c : Tree) → (v : Statement) × (m : List Mark) × then_part loops d c v m
-some_then loops d c = (when c empty, mark p.Semicolon ∷ [], (empty, mark p.Semicolon ∷ [], [], (tt, refl), inr (refl, refl), refl))
+some_then : (loops : Bool) (d : ℕ) (c : Tree) → (v : Statement) × (m : List Symbol) × then_part loops d c v m
+some_then loops d c = (when c empty, punct p.Semicolon ∷ [], (empty, punct p.Semicolon ∷ [], [], (tt, refl), inr (refl, refl), refl))
 
 -- a first part and what may follow it
-some-bind : {A : Type 0} (L : Language A) (K : A → Language Statement) → ((a : A) × (m : List Mark) × L a m) → ((a : A) → (v : Statement) × (m : List Mark) × K a v m) → (v : Statement) × (m : List Mark) × bind L K v m
+some-bind : {A : Type 0} (L : Language A) (K : A → Language Statement) → ((a : A) × (m : List Symbol) × L a m) → ((a : A) → (v : Statement) × (m : List Symbol) × K a v m) → (v : Statement) × (m : List Symbol) × bind L K v m
 some-bind L K a k = let b = k a.0 in (b.0, a.1 ++ b.1, (a.0, a.1, b.1, a.2, b.2, refl))
 
-some_if : (loops : Bool) (d : ℕ) → (v : Statement) × (m : List Mark) × if_parts loops d v m
+some_if : (loops : Bool) (d : ℕ) → (v : Statement) × (m : List Symbol) × if_parts loops d v m
 some_if loops d = some-bind (in_brackets d) (λ c. then_part loops d c) (some_brackets d) (some_then loops d)
 
-some_while_body : (d : ℕ) (c : Tree) → (v : Statement) × (m : List Mark) × mapped (while c) (statement_language true d) v m
+some_while_body : (d : ℕ) (c : Tree) → (v : Statement) × (m : List Symbol) × mapped (while c) (statement_language true d) v m
 some_while_body d c = let s = some_statement true d in (while c s.0, s.1, (s.0, s.2, refl))
 
-some_while : (d : ℕ) → (v : Statement) × (m : List Mark) × while_parts d v m
+some_while : (d : ℕ) → (v : Statement) × (m : List Symbol) × while_parts d v m
 some_while d = some-bind (in_brackets d) (λ c. mapped (while c) (statement_language true d)) (some_brackets d) (some_while_body d)
 
-some_for_body : (d : ℕ) (h : Head) (c u : Option Tree) → (v : Statement) × (m : List Mark) × for_body d h c u v m
+some_for_body : (d : ℕ) (h : Head) (c u : Option Tree) → (v : Statement) × (m : List Symbol) × for_body d h c u v m
 some_for_body d h c u = let s = some_statement true d in (for h c u s.0, s.1, (s.0, s.2, refl))
 
-some_for_step : (d : ℕ) (h : Head) (c : Option Tree) → (v : Statement) × (m : List Mark) × for_step d h c v m
+some_for_step : (d : ℕ) (h : Head) (c : Option Tree) → (v : Statement) × (m : List Symbol) × for_step d h c v m
 some_for_step d h c = some-bind (an_optional true (d + 1) p.CloseParen) (λ u. for_body d h c u) (some_optional true (d + 1) p.CloseParen) (some_for_body d h c)
 
-some_for_condition : (d : ℕ) (h : Head) → (v : Statement) × (m : List Mark) × for_condition d h v m
+some_for_condition : (d : ℕ) (h : Head) → (v : Statement) × (m : List Symbol) × for_condition d h v m
 some_for_condition d h = some-bind (an_optional true (d + 1) p.Semicolon) (λ c. for_step d h c) (some_optional true (d + 1) p.Semicolon) (some_for_step d h)
 
-some_for_head : (d : ℕ) → (v : Statement) × (m : List Mark) × for_head d v m
+some_for_head : (d : ℕ) → (v : Statement) × (m : List Symbol) × for_head d v m
 some_for_head d = some-bind (a_head (d + 1)) (λ h. for_condition d h) (some_head (d + 1)) (some_for_condition d)
 
-some_for : (d : ℕ) → (v : Statement) × (m : List Mark) × for_parts d v m
+some_for : (d : ℕ) → (v : Statement) × (m : List Symbol) × for_parts d v m
 some_for d = some-after (t.Punct p.OpenParen) (d + 1) (for_head d) (some_for_head d)
 
-some_print : (d : ℕ) → (v : Statement) × (m : List Mark) × print_arguments d v m
+some_print : (d : ℕ) → (v : Statement) × (m : List Symbol) × print_arguments d v m
 some_print d = some-bind (all_arguments (d + 1)) (λ es. semicolon (print es)) (some_arguments (d + 1)) (λ es. some_semicolon (print es))
 
-some_names : (d : ℕ) → (v : Statement) × (m : List Mark) × names_parts d v m
+some_names : (d : ℕ) → (v : Statement) × (m : List Symbol) × names_parts d v m
 some_names d = some-bind (in_brackets d) (λ e. semicolon (print_names e)) (some_brackets d) (λ e. some_semicolon (print_names e))
 
-some_block : (loops : Bool) (d : ℕ) → (v : Statement) × (m : List Mark) × mapped block (items_end loops d brace no_items) v m
+some_block : (loops : Bool) (d : ℕ) → (v : Statement) × (m : List Symbol) × mapped block (items_end loops d brace no_items) v m
 some_block loops d = let b = some_items loops d brace no_items in (block b.0, b.1, (b.0, b.2, refl))
 
 -- ---- statements after which an `else` may stand
@@ -77,19 +77,19 @@ when-not v c a h same s e = subst (λ z. IsClosed z) same (s e)
 closed-as : (v s : Statement) → v ≡ s → IsClosed s → IsClosed v
 closed-as v s same k = subst (λ z. IsClosed z) (sym same) k
 
-print-closed : (d : ℕ) (v : Statement) (m : List Mark) → a_print d v m → IsClosed v
+print-closed : (d : ℕ) (v : Statement) (m : List Symbol) → a_print d v m → IsClosed v
 print-closed d v m (u, x, y, l, (u', x', y', l', (es, x2, y2, k, (u3, x3, y3, l3, (same, none), e3), e2), e'), e) = closed-as v (print es) same tt
 
-names-closed : (d : ℕ) (v : Statement) (m : List Mark) → a_print_names d v m → IsClosed v
+names-closed : (d : ℕ) (v : Statement) (m : List Symbol) → a_print_names d v m → IsClosed v
 names-closed d v m (u, x, y, l, (c, x2, y2, k, (u3, x3, y3, l3, (same, none), e3), e2), e) = closed-as v (print_names c) same tt
 
-block-closed : (loops : Bool) (d : ℕ) (v : Statement) (m : List Mark) → a_block loops d v m → IsClosed v
+block-closed : (loops : Bool) (d : ℕ) (v : Statement) (m : List Symbol) → a_block loops d v m → IsClosed v
 block-closed loops d v m (u, x, y, l, (is, k, same), e) = closed-as v (block is) same tt
 
-leave-closed : (w : Keyword) (s v : Statement) (m : List Mark) → IsClosed s → a_leave w s v m → IsClosed v
+leave-closed : (w : Keyword) (s v : Statement) (m : List Symbol) → IsClosed s → a_leave w s v m → IsClosed v
 leave-closed w s v m h (u, x, y, l, (u', x', y', l', (same, none), e'), e) = closed-as v s same h
 
-run-closed : (d : ℕ) (v : Statement) (m : List Mark) → a_run d v m → IsClosed v
+run-closed : (d : ℕ) (v : Statement) (m : List Symbol) → a_run d v m → IsClosed v
 run-closed d v m k = let f = run-flat true d v m k in closed-as v (evaluate f.0) f.2 tt
 
 -- ---- a semicolon
@@ -175,23 +175,23 @@ module _ (limit d room : ℕ) (sum : d + room ≡ limit) where
     outcome-block loops ts = outcome-map block (items_end loops d brace no_items) Any Any Any Any limit ts (λ _ _ _ _ _. tt) (λ _ _ _ _ _. tt) _
         (outcome-items limit loops d room sum (within loops) (ih loops) (length ts) no_items ts (omega arith))
 
--- ---- a statement by its first token, where d constructs are open
+-- ---- a statement by its first terminal, where d constructs are open
 
 module _ (limit d room : ℕ) (sum : d + room ≡ limit) (within : Within)
     (ih : 0 < room → (loops : Bool) (ts : List Terminal) → Outcome (statement_language loops (d + 1)) Open Open limit ts (within loops ts)) (loops : Bool) where
   module _ (ts : List Terminal) (c : Terminal) (here : peek ts ≡ c) where
-    kind-of : (v : Statement) (m : List Mark) (r : List Terminal) → statement_language loops d v m → peek (terms m ++ r) ≡ peek ts → kind loops d c v m
+    kind-of : (v : Statement) (m : List Symbol) (r : List Terminal) → statement_language loops d v m → peek (terms m ++ r) ≡ peek ts → kind loops d c v m
     kind-of v m r k f = subst (λ c. kind loops d c v m) (f ∙ here) (kind-at loops d v m r k)
 
     -- a kind that may end with an `if`
-    open-kind : (res : Reading Statement) → ((v : Statement) (m : List Mark) → kind loops d c v m → statement_language loops d v m) → Outcome (kind loops d c) Open Open limit ts res → Outcome (statement_language loops d) Open Open limit ts res
+    open-kind : (res : Reading Statement) → ((v : Statement) (m : List Symbol) → kind loops d c v m → statement_language loops d v m) → Outcome (kind loops d c) Open Open limit ts res → Outcome (statement_language loops d) Open Open limit ts res
     open-kind res to h = outcome-choose (kind loops d c) (statement_language loops d) Open Open Open Open limit ts to (λ _ _ _ _ g. g) (λ v m r k s f. (kind-of v m r k f, s)) res h
 
     -- a kind that does not
-    closed-kind : (res : Reading Statement) → ((v : Statement) (m : List Mark) → kind loops d c v m → statement_language loops d v m) → ((v : Statement) (m : List Mark) → kind loops d c v m → IsClosed v) → Outcome (kind loops d c) Any Any limit ts res → Outcome (statement_language loops d) Open Open limit ts res
+    closed-kind : (res : Reading Statement) → ((v : Statement) (m : List Symbol) → kind loops d c v m → statement_language loops d v m) → ((v : Statement) (m : List Symbol) → kind loops d c v m → IsClosed v) → Outcome (kind loops d c) Any Any limit ts res → Outcome (statement_language loops d) Open Open limit ts res
     closed-kind res to closed h = outcome-choose (kind loops d c) (statement_language loops d) Any Open Any Open limit ts to (λ v m _ k _ _. closed v m k) (λ v m r k s f. (kind-of v m r k f, tt)) res h
 
-    other-kind : c ≢ t.Punct p.OpenBrace → ((v : Statement) (m : List Mark) → kind loops d c v m → a_run_flat d v m) → Outcome (statement_language loops d) Open Open limit ts (run_at room ts)
+    other-kind : c ≢ t.Punct p.OpenBrace → ((v : Statement) (m : List Symbol) → kind loops d c v m → a_run_flat d v m) → Outcome (statement_language loops d) Open Open limit ts (run_at room ts)
     other-kind away from =
         outcome-headed (a_run d) (statement_language loops d) Any Open Any Open limit ts (some_statement loops d)
         (λ v m r k f. run-to loops d v m r (λ h. away (sym here ∙ (sym f ∙ h))) k) (λ v m _ k _ _. run-closed d v m k)
@@ -199,8 +199,8 @@ module _ (limit d room : ℕ) (sum : d + room ≡ limit) (within : Within)
         (run_at room ts) (outcome-run limit d room sum ts)
 
   -- `break` or `continue`
-  outcome-leave : (w : Keyword) (s : Statement) → IsClosed s → ((v : Statement) (m : List Mark) → (loops ≡ true) × a_leave w s v m → statement_language loops d v m)
-      → ((v : Statement) (m : List Mark) → kind loops d (t.Keyword w) v m → (loops ≡ true) × a_leave w s v m) → (ts : List Terminal) → peek ts ≡ t.Keyword w → Outcome (statement_language loops d) Open Open limit ts (leave_at s loops ts)
+  outcome-leave : (w : Keyword) (s : Statement) → IsClosed s → ((v : Statement) (m : List Symbol) → (loops ≡ true) × a_leave w s v m → statement_language loops d v m)
+      → ((v : Statement) (m : List Symbol) → kind loops d (t.Keyword w) v m → (loops ≡ true) × a_leave w s v m) → (ts : List Terminal) → peek ts ≡ t.Keyword w → Outcome (statement_language loops d) Open Open limit ts (leave_at s loops ts)
   unfolding leave_at
   outcome-leave w s closed to from ts here =
       outcome-if (statement_language loops d) Open Open limit ts loops _ _
@@ -231,7 +231,7 @@ module _ (limit d room : ℕ) (sum : d + room ≡ limit) (within : Within)
 
   outcome-empty : (ts : List Terminal) → peek ts ≡ t.Punct p.Semicolon → Outcome an_empty Any Any limit ts (Ok (empty, next ts))
   outcome-empty ts here = record {
-    word = mark p.Semicolon ∷ [];
+    word = punct p.Semicolon ∷ [];
     spelled = (refl, refl);
     front = peek-cons (t.Punct p.Semicolon) ts (λ e. omega arith) here;
     within = (omega arith, tt);

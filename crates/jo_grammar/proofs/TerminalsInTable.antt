@@ -14,7 +14,7 @@ use Rattle.jo_tree.specs.declared.keyword.Keyword.{Keyword}
 use Rattle.jo_tree.specs.declared.keyword.TheConstants.{KEYWORDS}
 use Rattle.jo_tree.specs.Words.{keyword_text, keyword_of}
 use Rattle.jo_grammar.specs.Terminals.{keyword_or_reserved, kind_terminal, terminal_of, is_end, terminals_of}
-use Rattle.jo_grammar.proofs.GoodMarks.{IsGood, AreGood}
+use Rattle.jo_grammar.proofs.GoodSymbols.{IsGood, AreGood}
 use Rattle.jo_grammar.proofs.TokensInTable.{IsGoodKind, AreGoodTokens}
 
 -- ---- keywords

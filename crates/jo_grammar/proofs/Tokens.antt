@@ -1,4 +1,4 @@
--- Operators and their tokens.
+-- Operators and their terminals.
 use Rattle.std.proofs.Common.{◌≡◌, ◌≤◌, Bool, true, false, refl, arith}
 use Rattle.jo_lex.specs.declared.punct.Punct.{Punct}
 use Rattle.jo_lex.specs.declared.punct.Punct.TheVariants as p
@@ -13,7 +13,7 @@ use Rattle.jo_grammar.specs.declared.terminal.Terminal.TheVariants as t
 use Rattle.jo_grammar.specs.Operators.{binary_token, level_of, assign_token}
 use Rattle.jo_grammar.specs.inner.Read.{punct_rank, rank, binary_of, assign_of}
 
--- the token of a binary level is that of its operator, which may stand there
+-- the terminal of a binary level is that of its operator, which may stand there
 abbrev pub IsBinary : Bool → Terminal → Type 0
 IsBinary ins c = (binary_token (binary_of c) ≡ c) × (level_of (binary_of c) ≡ rank ins c) × (binary_of c ≡ bin.In → ins ≡ true)
 
@@ -64,7 +64,7 @@ keyword-no-assign : (ins : Bool) (w : Keyword) → rank ins (t.Keyword w) ≡ 1 
 keyword-no-assign true kw.In e = omega arith
 keyword-no-assign _ _ e = omega arith
 
--- a token of rank 1 is that of its assignment
+-- a terminal of rank 1 is that of its assignment
 pub assign-token-of : (ins : Bool) (c : Terminal) → rank ins c ≡ 1 → assign_token (assign_of c) ≡ c
 assign-token-of ins (t.Punct c) e = punct-assign c e
 assign-token-of ins (t.Keyword w) e = absurd (keyword-no-assign ins w e)

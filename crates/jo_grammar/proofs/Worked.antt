@@ -13,7 +13,7 @@ use Rattle.jo_tree.specs.declared.word.Ident.{Ident}
 use Rattle.jo_tree.specs.declared.word.Name.TheVariants as name
 use Rattle.jo_tree.specs.declared.word.PropKey.TheVariants as key
 use Rattle.jo_tree.specs.Trees.{Tree, number, constant, variable, group, object, cas, member, unary, delete, chain, choose, assign, no_props, prop, Accesses, no_accesses, field, index, no_links, link, declares, begins, Statement, empty, block, when, either, while, for, break, continue, print, print_names, evaluate, Items, no_items, declare, perform}
-use Rattle.jo_grammar.specs.Expressions.{Mark, plain, mark, word, Fits, IsExpression, spelling}
+use Rattle.jo_grammar.specs.Expressions.{Symbol, plain, punct, word, MayStand, IsExpression, spelling}
 use Rattle.jo_grammar.specs.Statements.{FitStatement, FitItems, FitHead, IsScript, statement}
 use Rattle.jo_grammar.specs.Refusals.{terms, Within, OpensTooMany}
 
@@ -43,36 +43,36 @@ d = variable (ident 3)
 abbrev e : Tree
 e = variable (ident 4)
 
--- the word with an id, as a token
-abbrev pub word_ : ℕ → Mark
+-- the word with an id, as a terminal
+abbrev pub word_ : ℕ → Symbol
 word_ n = plain (t.Ident (ident n))
 
--- a token that makes so many constructs open
-abbrev opening : Punct → ℕ → Mark
+-- a terminal that makes so many constructs open
+abbrev opening : Punct → ℕ → Symbol
 opening c n = (t.Punct c, n)
 
 -- a reserved word that makes so many constructs open
-abbrev opening_word : Keyword → ℕ → Mark
+abbrev opening_word : Keyword → ℕ → Symbol
 opening_word w n = (t.Keyword w, n)
 
--- tokens that open nothing
-abbrev pub round : Mark
-round = mark p.CloseParen
+-- terminals that open nothing
+abbrev pub round : Symbol
+round = punct p.CloseParen
 
-abbrev square : Mark
-square = mark p.CloseBracket
+abbrev square : Symbol
+square = punct p.CloseBracket
 
-abbrev brace : Mark
-brace = mark p.CloseBrace
+abbrev brace : Symbol
+brace = punct p.CloseBrace
 
-abbrev pub semicolon : Mark
-semicolon = mark p.Semicolon
+abbrev pub semicolon : Symbol
+semicolon = punct p.Semicolon
 
-abbrev colon : Mark
-colon = mark p.Colon
+abbrev colon : Symbol
+colon = punct p.Colon
 
-abbrev comma : Mark
-comma = mark p.Comma
+abbrev comma : Symbol
+comma = punct p.Comma
 
 -- the name of a variable, after a dot
 abbrev dot : ℕ → Accesses → Accesses
@@ -124,20 +124,20 @@ differences_are_one_chain = ((omega arith, tt, (refl, λ h. refl, tt, (refl, λ 
 
 -- no chain begins with a chain of its own level
 pub no_chain_begins_with_one_of_its_level :
-    Fits true 1 (chain 7 (chain 7 a (link bin.Minus b no_links)) (link bin.Minus c no_links)) → ⊥
+    MayStand true 1 (chain 7 (chain 7 a (link bin.Minus b no_links)) (link bin.Minus c no_links)) → ⊥
 no_chain_begins_with_one_of_its_level h = let tight : 8 ≤ 7 = h.1.0 in omega (arith, tight)
 
 -- nor is one its right operand
 pub no_right_operand_is_a_chain_of_the_level :
-    Fits true 1 (chain 7 a (link bin.Minus (chain 7 b (link bin.Minus c no_links)) no_links)) → ⊥
+    MayStand true 1 (chain 7 a (link bin.Minus (chain 7 b (link bin.Minus c no_links)) no_links)) → ⊥
 no_right_operand_is_a_chain_of_the_level h = let tight : 8 ≤ 7 = h.2.2.0 in omega (arith, tight)
 
 -- no chain has one operand alone
-pub no_chain_is_empty : Fits true 1 (chain 7 a no_links) → ⊥
+pub no_chain_is_empty : MayStand true 1 (chain 7 a no_links) → ⊥
 no_chain_is_empty h = true≢false h.2
 
 -- no chain has an operator of another level
-pub no_chain_mixes_levels : Fits true 1 (chain 7 a (link bin.Times b no_links)) → ⊥
+pub no_chain_mixes_levels : MayStand true 1 (chain 7 a (link bin.Times b no_links)) → ⊥
 no_chain_mixes_levels h = let same : 8 ≡ 7 = h.2.0 in omega (arith, same)
 
 -- `-a - b` is a difference, and the first `-` has ended where the second stands
@@ -153,7 +153,7 @@ unary_operators_nest = ((omega arith, (omega arith, tt)), refl)
 
 -- `!a.b` negates the property
 pub a_unary_operator_takes_the_whole_property :
-    IsExpression true 0 (unary un.Not a_dot_b) (opening p.Bang 1 ∷ word_ 0 ∷ mark p.Dot ∷ word_ 1 ∷ [])
+    IsExpression true 0 (unary un.Not a_dot_b) (opening p.Bang 1 ∷ word_ 0 ∷ punct p.Dot ∷ word_ 1 ∷ [])
 a_unary_operator_takes_the_whole_property = ((omega arith, (omega arith, tt, refl)), refl)
 
 -- Assignments and choices.
@@ -165,7 +165,7 @@ pub assignments_group_to_the_right :
 assignments_group_to_the_right = ((omega arith, tt, tt, (omega arith, tt, tt, tt)), refl)
 
 -- no assignment is a target
-pub no_assignment_is_a_target : Fits true 1 (assign set.Set (assign set.Set a b) c) → ⊥
+pub no_assignment_is_a_target : MayStand true 1 (assign set.Set (assign set.Set a b) c) → ⊥
 no_assignment_is_a_target h = h.1
 
 -- `a ? b : c ? d : e` has a choice for its last operand
@@ -175,7 +175,7 @@ pub choices_group_to_the_right :
 choices_group_to_the_right = ((omega arith, tt, tt, (omega arith, tt, tt, tt)), refl)
 
 -- no choice is the condition of one
-pub no_choice_is_a_condition : Fits true 1 (choose (choose a b c) d e) → ⊥
+pub no_choice_is_a_condition : MayStand true 1 (choose (choose a b c) d e) → ⊥
 no_choice_is_a_condition h = let tight : 3 ≤ 2 = h.1.0 in omega (arith, tight)
 
 -- in `a ? (b) : (c)` the `?` is open in both operands
@@ -191,13 +191,13 @@ pub an_assignment_stands_last_in_a_choice :
 an_assignment_stands_last_in_a_choice = ((omega arith, tt, tt, (omega arith, tt, tt, tt)), refl)
 
 -- `(a) = b` has no tree
-pub no_group_is_a_target : Fits true 1 (assign set.Set (group a) b) → ⊥
+pub no_group_is_a_target : MayStand true 1 (assign set.Set (group a) b) → ⊥
 no_group_is_a_target h = h.1
 
 -- `(a).b += c` has one
 pub a_property_of_a_group_is_a_target :
     IsExpression true 0 (assign set.Add (member (group a) (dot 1 no_accesses)) c)
-    (opening p.OpenParen 1 ∷ word_ 0 ∷ round ∷ mark p.Dot ∷ word_ 1 ∷ opening p.PlusAssign 1 ∷ word_ 2 ∷ [])
+    (opening p.OpenParen 1 ∷ word_ 0 ∷ round ∷ punct p.Dot ∷ word_ 1 ∷ opening p.PlusAssign 1 ∷ word_ 2 ∷ [])
 a_property_of_a_group_is_a_target = ((omega arith, tt, (omega arith, tt, refl), tt), refl)
 
 -- Accesses.
@@ -205,7 +205,7 @@ a_property_of_a_group_is_a_target = ((omega arith, tt, (omega arith, tt, refl), 
 -- `delete a.b.c` takes all of it
 pub delete_takes_all_accesses :
     IsExpression true 0 (delete (member a (dot 1 (dot 2 no_accesses))))
-    (opening_word kw.Delete 1 ∷ word_ 0 ∷ mark p.Dot ∷ word_ 1 ∷ mark p.Dot ∷ word_ 2 ∷ [])
+    (opening_word kw.Delete 1 ∷ word_ 0 ∷ punct p.Dot ∷ word_ 1 ∷ punct p.Dot ∷ word_ 2 ∷ [])
 delete_takes_all_accesses = ((omega arith, tt, (omega arith, tt, refl)), refl)
 
 -- in `delete a[b = c]` all three are open at the `=`
@@ -215,11 +215,11 @@ pub a_delete_is_open_in_its_operand :
 a_delete_is_open_in_its_operand = ((omega arith, tt, (omega arith, tt, ((omega arith, tt, tt, tt), refl))), refl)
 
 -- `delete (a.b)` has no tree
-pub no_delete_takes_a_group : Fits true 1 (delete (group a_dot_b)) → ⊥
+pub no_delete_takes_a_group : MayStand true 1 (delete (group a_dot_b)) → ⊥
 no_delete_takes_a_group h = h.1
 
 -- nor has `delete a`
-pub no_delete_takes_a_variable : Fits true 1 (delete a) → ⊥
+pub no_delete_takes_a_variable : MayStand true 1 (delete a) → ⊥
 no_delete_takes_a_variable h = h.1
 
 -- in `a[(b)][c]` a bracket is open until its own is closed
@@ -229,22 +229,22 @@ pub brackets_are_open_until_they_are_closed :
 brackets_are_open_until_they_are_closed = ((omega arith, tt, (tt, (tt, refl))), refl)
 
 -- no property is the base of one, so that accesses are one list
-pub no_property_is_a_base : Fits true 1 (member a_dot_b (dot 2 no_accesses)) → ⊥
+pub no_property_is_a_base : MayStand true 1 (member a_dot_b (dot 2 no_accesses)) → ⊥
 no_property_is_a_base h = let tight : 11 ≤ 10 = h.1.0 in omega (arith, tight)
 
 -- nor is there one without an access
-pub no_property_lacks_an_access : Fits true 1 (member a no_accesses) → ⊥
+pub no_property_lacks_an_access : MayStand true 1 (member a no_accesses) → ⊥
 no_property_lacks_an_access h = true≢false h.2
 
 -- `a.if` names a property by a reserved word
 pub a_reserved_word_names_a_property :
-    IsExpression true 0 (member a (field (name.Keyword kw.If) no_accesses)) (word_ 0 ∷ mark p.Dot ∷ word kw.If ∷ [])
+    IsExpression true 0 (member a (field (name.Keyword kw.If) no_accesses)) (word_ 0 ∷ punct p.Dot ∷ word kw.If ∷ [])
 a_reserved_word_names_a_property = ((omega arith, tt, refl), refl)
 
 -- `cas(a, b, c, d).e` is a property of what the swap gives
 pub a_swap_has_properties :
     IsExpression true 0 (member (cas a b c d) (dot 4 no_accesses))
-    (word kw.Cas ∷ opening p.OpenParen 1 ∷ word_ 0 ∷ comma ∷ word_ 1 ∷ comma ∷ word_ 2 ∷ comma ∷ word_ 3 ∷ round ∷ mark p.Dot ∷ word_ 4 ∷ [])
+    (word kw.Cas ∷ opening p.OpenParen 1 ∷ word_ 0 ∷ comma ∷ word_ 1 ∷ comma ∷ word_ 2 ∷ comma ∷ word_ 3 ∷ round ∷ punct p.Dot ∷ word_ 4 ∷ [])
 a_swap_has_properties = ((omega arith, (tt, tt, tt, tt), refl), refl)
 
 -- in `cas((shared), -a, (b), c + d)` the bracket is open in all four
@@ -269,7 +269,7 @@ pub an_object_is_open_in_its_values :
 an_object_is_open_in_its_values = ((refl, (omega arith, tt), (refl, (omega arith, tt), tt)), refl)
 
 -- `{,}` has no tree
-pub no_comma_stands_alone : Fits true 1 (object no_props true) → ⊥
+pub no_comma_stands_alone : MayStand true 1 (object no_props true) → ⊥
 no_comma_stands_alone h = true≢false h
 
 -- `{if: a}` has a reserved word for its key
@@ -279,17 +279,17 @@ pub a_reserved_word_is_a_key :
 a_reserved_word_is_a_key = ((refl, tt, tt), refl)
 
 -- `{__proto__: a}` has no tree
-pub proto_is_no_key : Fits true 1 (object (prop (key.Name (name.Ident proto)) a no_props) false) → ⊥
+pub proto_is_no_key : MayStand true 1 (object (prop (key.Name (name.Ident proto)) a no_props) false) → ⊥
 proto_is_no_key h = true≢false h.0
 
 -- nor has `{"__proto__": a}`, also after another property
 pub proto_is_no_key_as_a_text :
-    Fits true 1 (object (prop (key.Number (pos 1)) a (prop (key.Text (record { text = record { 0 = 9 }; is_proto = true })) a no_props)) false) → ⊥
+    MayStand true 1 (object (prop (key.Number (pos 1)) a (prop (key.Text (record { text = record { 0 = 9 }; is_proto = true })) a no_props)) false) → ⊥
 proto_is_no_key_as_a_text h = true≢false h.2.0
 
 -- `a.__proto__` has one
 pub proto_is_a_name_after_a_dot :
-    IsExpression true 0 (member a (field (name.Ident proto) no_accesses)) (word_ 0 ∷ mark p.Dot ∷ plain (t.Ident proto) ∷ [])
+    IsExpression true 0 (member a (field (name.Ident proto) no_accesses)) (word_ 0 ∷ punct p.Dot ∷ plain (t.Ident proto) ∷ [])
 proto_is_a_name_after_a_dot = ((omega arith, tt, refl), refl)
 
 -- `else`.
@@ -413,12 +413,12 @@ an_in_may_stand_in_brackets_there = (((((omega arith, tt, (refl, λ h. refl, tt,
 pub an_in_may_stand_in_the_other_parts :
     FitStatement false (for (begins (Some (member (object (prop (key.Name (name.Ident (ident 2))) a_in_b no_props) false) (index d no_accesses)))) (Some a_in_b) (Some a_in_b) empty)
 an_in_may_stand_in_the_other_parts =
-    let free : Fits true 1 a_in_b = (omega arith, tt, (refl, λ h. refl, tt, refl)) in ((omega arith, (refl, free, tt), (tt, refl)), free, free, tt)
+    let free : MayStand true 1 a_in_b = (omega arith, tt, (refl, λ h. refl, tt, refl)) in ((omega arith, (refl, free, tt), (tt, refl)), free, free, tt)
 
 -- so may it in all four operands of a swap in the first part
 pub an_in_may_stand_in_a_swap_there : FitHead (begins (Some (cas a_in_b a_in_b a_in_b a_in_b)))
 an_in_may_stand_in_a_swap_there =
-    let free : Fits true 1 a_in_b = (omega arith, tt, (refl, λ h. refl, tt, refl)) in (free, free, free, free)
+    let free : MayStand true 1 a_in_b = (omega arith, tt, (refl, λ h. refl, tt, refl)) in (free, free, free, free)
 
 -- Loops and what leaves them.
 
@@ -483,7 +483,7 @@ deep zero = a
 deep (suc n) = group (deep n)
 
 -- so many brackets, of which each counts one more
-abbrev pub opened : ℕ → ℕ → List Mark
+abbrev pub opened : ℕ → ℕ → List Symbol
 opened from zero = []
 opened from (suc n) = opening p.OpenParen (from + 1) ∷ opened (from + 1) n
 
@@ -492,14 +492,14 @@ abbrev ifs : ℕ → Statement
 ifs zero = empty
 ifs (suc n) = when (number (pos 1)) (ifs n)
 
--- the tokens of the conditions
-abbrev conditions : ℕ → ℕ → List Mark
+-- the terminals of the conditions
+abbrev conditions : ℕ → ℕ → List Symbol
 conditions from zero = []
 conditions from (suc n) =
     opening_word kw.If (from + 1) ∷ opening p.OpenParen (from + 1 + 1) ∷ plain (t.Number (pos 1)) ∷ round ∷ conditions (from + 1) n
 
 -- what keeps within the limit does so with what keeps within it after
-within_both : (limit : ℕ) (m n : List Mark) → Within limit m → Within limit n → Within limit (m ++ n)
+within_both : (limit : ℕ) (m n : List Symbol) → Within limit m → Within limit n → Within limit (m ++ n)
 within_both limit [] n f g = g
 within_both limit (x ∷ m) n f g = (f.0, within_both limit m n f.1 g)
 
@@ -508,8 +508,8 @@ deep_within limit from zero h = (omega arith, tt)
 deep_within limit from (suc n) h =
     (omega (arith, h), within_both limit (spelling (from + 1) (deep n)) (round ∷ []) (deep_within limit (from + 1) n (omega (arith, h))) (omega arith, tt))
 
--- what keeps within the limit does so up to each of its tokens
-within_front : (limit : ℕ) (m n : List Mark) → Within limit (m ++ n) → Within limit m
+-- what keeps within the limit does so up to each of its terminals
+within_front : (limit : ℕ) (m n : List Symbol) → Within limit (m ++ n) → Within limit m
 within_front limit [] n h = tt
 within_front limit (x ∷ m) n h = (h.0, within_front limit m n h.1)
 
@@ -532,7 +532,7 @@ conditions_within limit from zero h = tt
 conditions_within limit from (suc n) h =
     (omega (arith, h), (omega (arith, h), (omega arith, (omega arith, conditions_within limit (from + 1) n (omega (arith, h))))))
 
-pub deep_fits : (n : ℕ) → Fits true 1 (deep n)
+pub deep_fits : (n : ℕ) → MayStand true 1 (deep n)
 deep_fits zero = tt
 deep_fits (suc n) = deep_fits n
 

@@ -1,42 +1,42 @@
--- The faults of a script come in order of place, where the places of the identifiers among its tokens rise.
+-- The faults of a script come in order of place, where the places of the identifiers among its terminals rise.
 use Rattle.std.proofs.Common.{subst, append_assoc}
 use Rattle.std.specs.Prelude.{ℕ, ◌+◌, List, [], ◌∷◌, ◌++◌, Option, Some, None}
 use Rattle.jo_tree.specs.declared.word.Ident.{Ident}
 use Rattle.jo_tree.specs.Trees.{Tree, number, literal, constant, variable, group, object, cas, member, unary, delete, chain, choose, assign, Props, no_props, prop, Accesses, no_accesses, field, index, Links, no_links, link, Binding, Head, declares, begins, Statement, empty, block, when, either, while, for, break, continue, print, print_names, evaluate, Items, no_items, declare, perform}
 use Rattle.jo_grammar.specs.declared.terminal.Terminal.{Terminal}
 use Rattle.jo_grammar.specs.declared.terminal.Terminal.TheVariants as t
-use Rattle.jo_grammar.specs.Expressions.{Mark, spelling, props, more_props, accesses, links}
+use Rattle.jo_grammar.specs.Expressions.{Symbol, spelling, props, more_props, accesses, links}
 use Rattle.jo_grammar.specs.Statements.{optional, initial, more_bindings, bindings, declaration, head, more_arguments, arguments, statement, items}
 use Rattle.jo_grammar.specs.Declarations.{uses_of, uses_of_props, uses_of_accesses, uses_of_links, uses_of_optional, uses_of_all, faults}
 use Rattle.jo_grammar.proofs.Order.{identifiers_of_bindings, identifiers_of_head, identifiers_of, identifiers_of_items, IsAbove, Rise, places_of, places_at_fault, faults_rise}
 
--- ---- the identifiers among tokens
+-- ---- the identifiers among terminals
 
 abbrev with_place : Terminal → List ℕ → List ℕ
 with_place (t.Ident x) places = x.place ∷ places
 with_place _ places = places
 
--- the places of the identifiers among these tokens, of the names of properties too
-abbrev pub places_among : List Mark → List ℕ
+-- the places of the identifiers among these terminals, of the names of properties too
+abbrev pub places_among : List Symbol → List ℕ
 places_among [] = []
 places_among (m ∷ ms) = with_place m.0 (places_among ms)
 
--- the identifiers stand among the tokens, in their order
-data Written : List Ident → List Mark → Type 0 where
+-- the identifiers stand among the terminals, in their order
+data Written : List Ident → List Symbol → Type 0 where
   at_end : Written [] []
-  passed : {m : Mark} {xs : List Ident} {ms : List Mark} → Written xs ms → Written xs (m ∷ ms)
-  here : {x : Ident} {n : ℕ} {xs : List Ident} {ms : List Mark} → Written xs ms → Written (x ∷ xs) ((t.Ident x, n) ∷ ms)
+  passed : {m : Symbol} {xs : List Ident} {ms : List Symbol} → Written xs ms → Written xs (m ∷ ms)
+  here : {x : Ident} {n : ℕ} {xs : List Ident} {ms : List Symbol} → Written xs ms → Written (x ∷ xs) ((t.Ident x, n) ∷ ms)
 
-joined : {xs ys : List Ident} {ms ns : List Mark} → Written xs ms → Written ys ns → Written (xs ++ ys) (ms ++ ns)
+joined : {xs ys : List Ident} {ms ns : List Symbol} → Written xs ms → Written ys ns → Written (xs ++ ys) (ms ++ ns)
 joined at_end k = k
 joined (passed h) k = passed (joined h k)
 joined (here h) k = here (joined h k)
 
-none_in : (ms : List Mark) → Written [] ms
+none_in : (ms : List Symbol) → Written [] ms
 none_in [] = at_end
 none_in (m ∷ ms) = passed (none_in ms)
 
-followed : {xs : List Ident} {ms : List Mark} → Written xs ms → (ns : List Mark) → Written xs (ms ++ ns)
+followed : {xs : List Ident} {ms : List Symbol} → Written xs ms → (ns : List Symbol) → Written xs (ms ++ ns)
 followed at_end ns = none_in ns
 followed (passed h) ns = passed (followed h ns)
 followed (here h) ns = here (followed h ns)
@@ -45,7 +45,7 @@ above_rest : (place : ℕ) (c : Terminal) (places : List ℕ) → IsAbove place 
 above_rest place (t.Ident x) places a = a.1
 above_rest place _ places a = a
 
-above : {xs : List Ident} {ms : List Mark} (place : ℕ) → Written xs ms → IsAbove place (places_among ms) → IsAbove place (places_of xs)
+above : {xs : List Ident} {ms : List Symbol} (place : ℕ) → Written xs ms → IsAbove place (places_among ms) → IsAbove place (places_of xs)
 above place at_end a = tt
 above place (passed {m = m} {ms = ms} h) a = above place h (above_rest place m.0 (places_among ms) a)
 above place (here h) a = (a.0, above place h a.1)
@@ -54,7 +54,7 @@ rest_rises : (c : Terminal) (places : List ℕ) → Rise (with_place c places) �
 rest_rises (t.Ident x) places r = r.1
 rest_rises _ places r = r
 
-rise : {xs : List Ident} {ms : List Mark} → Written xs ms → Rise (places_among ms) → Rise (places_of xs)
+rise : {xs : List Ident} {ms : List Symbol} → Written xs ms → Rise (places_among ms) → Rise (places_of xs)
 rise at_end r = tt
 rise (passed {m = m} {ms = ms} h) r = rise h (rest_rises m.0 (places_among ms) r)
 rise (here {x = x} h) r = (above x.place h r.0, rise h r.1)
@@ -128,7 +128,7 @@ head_written : (d : ℕ) (h : Head) → Written (identifiers_of_head h) (head d 
 head_written d (declares bs) = declaration_written d bs
 head_written d (begins e) = followed (optional_written d e) _
 
-regrouped : (xs ys zs : List Ident) {ms : List Mark} → Written ((xs ++ ys) ++ zs) ms → Written (xs ++ (ys ++ zs)) ms
+regrouped : (xs ys zs : List Ident) {ms : List Symbol} → Written ((xs ++ ys) ++ zs) ms → Written (xs ++ (ys ++ zs)) ms
 regrouped xs ys zs {ms = ms} h = subst (λ all. Written all ms) (append_assoc xs ys zs) h
 
 mutual
@@ -152,6 +152,6 @@ mutual
   items_written d (declare bs is) = joined (declaration_written d bs) (items_written d is)
   items_written d (perform s is) = joined (statement_written d s) (items_written d is)
 
--- where the places of identifiers rise from token to token, the faults come in order of place
+-- where the places of identifiers rise from terminal to terminal, the faults come in order of place
 pub faults_rise_with_tokens : (script : Items) → Rise (places_among (items 0 script)) → Rise (places_at_fault (faults script))
 faults_rise_with_tokens script r = faults_rise script (rise (items_written 0 script) r)

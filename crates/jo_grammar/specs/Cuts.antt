@@ -1,5 +1,5 @@
 -- How an input is cut into its sections.
-use Rattle.std.specs.Prelude.{◌≡◌, ℕ, ◌+◌, ◌<◌, ◌≤◌, ◌-◌, ◌==◌, ◌||◌, Bool, if◌then◌else◌, List, [], ◌∷◌, ◌++◌, length, map, slice_get, Some, codes}
+use Rattle.std.specs.Prelude.{◌≡◌, ℕ, ◌+◌, ◌<◌, ◌≤◌, ◌-◌, ◌==◌, ◌||◌, Bool, if◌then◌else◌, List, [], ◌∷◌, ◌++◌, length, slice_get, Some, codes}
 use Rattle.std.specs.Str.{bytes_eq}
 use Rattle.jo_value.specs.declared.limits.TheConstants.{MOST_SCRIPTS}
 

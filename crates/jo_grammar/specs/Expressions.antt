@@ -11,8 +11,8 @@ use Rattle.jo_tree.specs.Trees.{Tree, number, literal, constant, variable, group
 use Rattle.jo_grammar.specs.Operators.{unary_token, binary_token, level_of, assign_token, name_token, key_token, reads_proto, is_constant}
 
 -- A terminal, and how many constructs are open once it has opened one, or 0 where it opens none.
-abbrev pub Mark : Type 0
-Mark = Terminal × ℕ
+abbrev pub Symbol : Type 0
+Symbol = Terminal × ℕ
 
 -- ---- which trees there are
 
@@ -30,96 +30,96 @@ IsMember _ = ⊥
 -- The tree is an expression of this level or of a higher one. Levels: 1 any expression, 2 a choice, 3 `||`, 4 `&&`, 5 `===`, 6 `<` and `in`, 7 `+`, 8 `*`, 9 a unary operator, 10 a postfix expression, 11 a primary one.
 -- The flag says whether `in` may stand outside brackets.
 abbrev mutual
-  pub Fits : Bool → ℕ → Tree → Type 0
-  Fits ins l (number i) = Unit {0}
-  Fits ins l (literal s) = Unit {0}
-  Fits ins l (constant w) = is_constant w ≡ true
-  Fits ins l (variable x) = Unit {0}
-  Fits ins l (group e) = Fits true 1 e
-  Fits ins l (object ps comma) = FitProps ps comma
-  Fits ins l (cas o k a b) = Fits true 1 o × Fits true 1 k × Fits true 1 a × Fits true 1 b
-  Fits ins l (member e xs) = (l ≤ 10) × Fits ins 11 e × FitAccesses true xs
-  Fits ins l (unary o e) = (l ≤ 9) × Fits ins 9 e
-  Fits ins l (delete e) = (l ≤ 9) × IsMember e × Fits ins 10 e
-  Fits ins l (chain k e ls) = (l ≤ k) × Fits ins (k + 1) e × FitLinks ins true k ls
-  Fits ins l (choose a b c) = (l ≤ 2) × Fits ins 3 a × Fits ins 1 b × Fits ins 1 c
-  Fits ins l (assign o a b) = (l ≤ 1) × IsTarget a × Fits ins 10 a × Fits ins 1 b
+  pub MayStand : Bool → ℕ → Tree → Type 0
+  MayStand ins l (number i) = Unit {0}
+  MayStand ins l (literal s) = Unit {0}
+  MayStand ins l (constant w) = is_constant w ≡ true
+  MayStand ins l (variable x) = Unit {0}
+  MayStand ins l (group e) = MayStand true 1 e
+  MayStand ins l (object ps comma) = FitProps ps comma
+  MayStand ins l (cas o k a b) = MayStand true 1 o × MayStand true 1 k × MayStand true 1 a × MayStand true 1 b
+  MayStand ins l (member e xs) = (l ≤ 10) × MayStand ins 11 e × FitAccesses true xs
+  MayStand ins l (unary o e) = (l ≤ 9) × MayStand ins 9 e
+  MayStand ins l (delete e) = (l ≤ 9) × IsMember e × MayStand ins 10 e
+  MayStand ins l (chain k e ls) = (l ≤ k) × MayStand ins (k + 1) e × FitLinks ins true k ls
+  MayStand ins l (choose a b c) = (l ≤ 2) × MayStand ins 3 a × MayStand ins 1 b × MayStand ins 1 c
+  MayStand ins l (assign o a b) = (l ≤ 1) × IsTarget a × MayStand ins 10 a × MayStand ins 1 b
 
   -- a comma before the closing brace stands after a property, and `__proto__` is no key
   pub FitProps : Props → Bool → Type 0
   FitProps no_props comma = comma ≡ false
-  FitProps (prop k e ps) comma = (reads_proto (key_token k) ≡ false) × Fits true 1 e × FitMore ps
+  FitProps (prop k e ps) comma = (reads_proto (key_token k) ≡ false) × MayStand true 1 e × FitMore ps
 
   pub FitMore : Props → Type 0
   FitMore no_props = Unit {0}
-  FitMore (prop k e ps) = (reads_proto (key_token k) ≡ false) × Fits true 1 e × FitMore ps
+  FitMore (prop k e ps) = (reads_proto (key_token k) ≡ false) × MayStand true 1 e × FitMore ps
 
   -- the flag says whether there has to be one
   pub FitAccesses : Bool → Accesses → Type 0
   FitAccesses some no_accesses = some ≡ false
   FitAccesses some (field n xs) = FitAccesses false xs
-  FitAccesses some (index e xs) = Fits true 1 e × FitAccesses false xs
+  FitAccesses some (index e xs) = MayStand true 1 e × FitAccesses false xs
 
   -- operators of the level, each with a right operand that binds more tightly
   pub FitLinks : Bool → Bool → ℕ → Links → Type 0
   FitLinks ins some k no_links = some ≡ false
-  FitLinks ins some k (link o e ls) = (level_of o ≡ k) × (o ≡ bin.In → ins ≡ true) × Fits ins (k + 1) e × FitLinks ins false k ls
+  FitLinks ins some k (link o e ls) = (level_of o ≡ k) × (o ≡ bin.In → ins ≡ true) × MayStand ins (k + 1) e × FitLinks ins false k ls
 
 -- ---- the terminals that spell a tree
 
-abbrev pub plain : Terminal → Mark
+abbrev pub plain : Terminal → Symbol
 plain c = (c, 0)
 
-abbrev pub mark : Punct → Mark
-mark c = plain (t.Punct c)
+abbrev pub punct : Punct → Symbol
+punct c = plain (t.Punct c)
 
-abbrev pub word : Keyword → Mark
+abbrev pub word : Keyword → Symbol
 word w = plain (t.Keyword w)
 
-abbrev pub comma_at_end : Bool → List Mark
-comma_at_end true = mark p.Comma ∷ []
+abbrev pub comma_at_end : Bool → List Symbol
+comma_at_end true = punct p.Comma ∷ []
 comma_at_end false = []
 
 -- The terminals of a tree, where d constructs are open already. A bracket is open up to its closing bracket, an operator up to the end of its last operand.
 abbrev mutual
-  pub spelling : ℕ → Tree → List Mark
+  pub spelling : ℕ → Tree → List Symbol
   spelling d (number i) = plain (t.Number i) ∷ []
   spelling d (literal s) = plain (t.Text s) ∷ []
   spelling d (constant w) = word w ∷ []
   spelling d (variable x) = plain (t.Ident x) ∷ []
-  spelling d (group e) = (t.Punct p.OpenParen, d + 1) ∷ (spelling (d + 1) e ++ mark p.CloseParen ∷ [])
-  spelling d (object ps comma) = (t.Punct p.OpenBrace, d + 1) ∷ (props (d + 1) ps ++ (comma_at_end comma ++ mark p.CloseBrace ∷ []))
+  spelling d (group e) = (t.Punct p.OpenParen, d + 1) ∷ (spelling (d + 1) e ++ punct p.CloseParen ∷ [])
+  spelling d (object ps comma) = (t.Punct p.OpenBrace, d + 1) ∷ (props (d + 1) ps ++ (comma_at_end comma ++ punct p.CloseBrace ∷ []))
   spelling d (cas o k a b) =
-      word kw.Cas ∷ ((t.Punct p.OpenParen, d + 1) ∷ (spelling (d + 1) o ++ mark p.Comma ∷ (spelling (d + 1) k ++ mark p.Comma ∷ (spelling (d + 1) a ++ mark p.Comma ∷ (spelling (d + 1) b ++ mark p.CloseParen ∷ [])))))
+      word kw.Cas ∷ ((t.Punct p.OpenParen, d + 1) ∷ (spelling (d + 1) o ++ punct p.Comma ∷ (spelling (d + 1) k ++ punct p.Comma ∷ (spelling (d + 1) a ++ punct p.Comma ∷ (spelling (d + 1) b ++ punct p.CloseParen ∷ [])))))
   spelling d (member e xs) = spelling d e ++ accesses d xs
   spelling d (unary o e) = (unary_token o, d + 1) ∷ spelling (d + 1) e
   spelling d (delete e) = (t.Keyword kw.Delete, d + 1) ∷ spelling (d + 1) e
   spelling d (chain k e ls) = spelling d e ++ links d ls
-  spelling d (choose a b c) = spelling d a ++ (t.Punct p.Question, d + 1) ∷ (spelling (d + 1) b ++ mark p.Colon ∷ spelling (d + 1) c)
+  spelling d (choose a b c) = spelling d a ++ (t.Punct p.Question, d + 1) ∷ (spelling (d + 1) b ++ punct p.Colon ∷ spelling (d + 1) c)
   spelling d (assign o a b) = spelling d a ++ (assign_token o, d + 1) ∷ spelling (d + 1) b
 
-  pub props : ℕ → Props → List Mark
+  pub props : ℕ → Props → List Symbol
   props d no_props = []
-  props d (prop k e ps) = plain (key_token k) ∷ (mark p.Colon ∷ (spelling d e ++ more_props d ps))
+  props d (prop k e ps) = plain (key_token k) ∷ (punct p.Colon ∷ (spelling d e ++ more_props d ps))
 
-  pub more_props : ℕ → Props → List Mark
+  pub more_props : ℕ → Props → List Symbol
   more_props d no_props = []
-  more_props d (prop k e ps) = mark p.Comma ∷ (plain (key_token k) ∷ (mark p.Colon ∷ (spelling d e ++ more_props d ps)))
+  more_props d (prop k e ps) = punct p.Comma ∷ (plain (key_token k) ∷ (punct p.Colon ∷ (spelling d e ++ more_props d ps)))
 
-  pub accesses : ℕ → Accesses → List Mark
+  pub accesses : ℕ → Accesses → List Symbol
   accesses d no_accesses = []
-  accesses d (field n xs) = mark p.Dot ∷ (plain (name_token n) ∷ accesses d xs)
-  accesses d (index e xs) = (t.Punct p.OpenBracket, d + 1) ∷ (spelling (d + 1) e ++ mark p.CloseBracket ∷ accesses d xs)
+  accesses d (field n xs) = punct p.Dot ∷ (plain (name_token n) ∷ accesses d xs)
+  accesses d (index e xs) = (t.Punct p.OpenBracket, d + 1) ∷ (spelling (d + 1) e ++ punct p.CloseBracket ∷ accesses d xs)
 
-  pub links : ℕ → Links → List Mark
+  pub links : ℕ → Links → List Symbol
   links d no_links = []
   links d (link o e ls) = (binary_token o, d + 1) ∷ (spelling (d + 1) e ++ links d ls)
 
 -- ---- expressions
 
 -- the terminals spell the expression, where so many constructs are open already
-abbrev pub IsExpression : Bool → ℕ → Tree → List Mark → Type 0
-IsExpression ins d e m = Fits ins 1 e × (m ≡ spelling d e)
+abbrev pub IsExpression : Bool → ℕ → Tree → List Symbol → Type 0
+IsExpression ins d e m = MayStand ins 1 e × (m ≡ spelling d e)
 
 -- the terminal that an expression begins with
 abbrev pub first : Tree → Terminal

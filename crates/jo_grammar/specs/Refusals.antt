@@ -1,20 +1,20 @@
 -- Which terminals are accepted, and which are refused where. They are those of one script, or of one expression.
 use Rattle.std.specs.Prelude.{◌≡◌, ℕ, ◌≤◌, ◌<◌, List, [], ◌∷◌, ◌++◌}
 use Rattle.jo_grammar.specs.declared.terminal.Terminal.{Terminal}
-use Rattle.jo_grammar.specs.Expressions.{Mark}
+use Rattle.jo_grammar.specs.Expressions.{Symbol}
 
 -- which terminals spell a tree, each with how many constructs are open
 abbrev pub Language : Type 0 → Type 1
-Language A = A → List Mark → Type 0
+Language A = A → List Symbol → Type 0
 
 -- ---- terminals
 
-abbrev pub terms : List Mark → List Terminal
+abbrev pub terms : List Symbol → List Terminal
 terms [] = []
 terms (m ∷ ms) = m.0 ∷ terms ms
 
 -- no terminal makes more than so many constructs open
-abbrev pub Within : ℕ → List Mark → Type 0
+abbrev pub Within : ℕ → List Symbol → Type 0
 Within limit [] = Unit {0}
 Within limit (m ∷ ms) = (m.1 ≤ limit) × Within limit ms
 
@@ -23,7 +23,7 @@ Within limit (m ∷ ms) = (m.1 ≤ limit) × Within limit ms
 module _ {A : Type 0} (L : Language A) where
   -- the terminals spell the tree
   abbrev pub Spells : A → List Terminal → Type 0
-  Spells a ts = (m : List Mark) × L a m × (terms m ≡ ts)
+  Spells a ts = (m : List Symbol) × L a m × (terms m ≡ ts)
 
   -- some spelling begins with these terminals
   abbrev pub Begins : List Terminal → Type 0
@@ -39,23 +39,23 @@ module _ {A : Type 0} (L : Language A) where
 module _ {A : Type 0} (L : Language A) (limit : ℕ) where
   -- some spelling begins with these terminals, and they keep within the limit
   abbrev pub BeginsWithin : List Terminal → Type 0
-  BeginsWithin ts = (a : A) × (w : List Mark) × (q : List Mark) × L a (w ++ q) × (terms w ≡ ts) × Within limit w
+  BeginsWithin ts = (a : A) × (w : List Symbol) × (q : List Symbol) × L a (w ++ q) × (terms w ≡ ts) × Within limit w
 
   -- some spelling begins with these terminals, which keep within the limit, and goes on with the next one, which opens a construct too many
   abbrev pub OpensTooMany : List Terminal → List Terminal → Type 0
   OpensTooMany before [] = ⊥
   OpensTooMany before (c ∷ r) =
-      (a : A) × (w : List Mark) × (o : ℕ) × (q : List Mark) × L a (w ++ (c, o) ∷ q) × (terms w ≡ before) × Within limit w × (limit < o)
+      (a : A) × (w : List Symbol) × (o : ℕ) × (q : List Symbol) × L a (w ++ (c, o) ∷ q) × (terms w ≡ before) × Within limit w × (limit < o)
 
   -- in each spelling that begins with these terminals and the next one, that one opens a construct too many
   abbrev pub EachOpensTooMany : List Terminal → List Terminal → Type 0
   EachOpensTooMany before [] = ⊥
   EachOpensTooMany before (c ∷ r) =
-      (a : A) (m : List Mark) (q : List Terminal) → L a m → terms m ≡ before ++ c ∷ q → (w : List Mark) × (o : ℕ) × (q' : List Mark) × (m ≡ w ++ (c, o) ∷ q') × (terms w ≡ before) × (limit < o)
+      (a : A) (m : List Symbol) (q : List Terminal) → L a m → terms m ≡ before ++ c ∷ q → (w : List Symbol) × (o : ℕ) × (q' : List Symbol) × (m ≡ w ++ (c, o) ∷ q') × (terms w ≡ before) × (limit < o)
 
   -- the terminals spell this tree and no other, within the limit
   abbrev pub IsAccepted : List Terminal → A → Type 0
-  IsAccepted ts a = (m : List Mark) × L a m × (terms m ≡ ts) × Within limit m × ((other : A) → Spells L other ts → other ≡ a)
+  IsAccepted ts a = (m : List Symbol) × L a m × (terms m ≡ ts) × Within limit m × ((other : A) → Spells L other ts → other ≡ a)
 
 -- ---- refusals
 

@@ -1,53 +1,31 @@
 -- Keys of properties.
-use Rattle.std.specs.Prelude.{ℕ, pos, ◌+◌, ◌-◌, ◌*◌, ◌==◌, ◌&&◌, nat_le, Bool, not, if◌then◌else◌, List, [], ◌∷◌, slice_get, Option, Some, None, Result, Ok, Err}
-use Rattle.jo_value.specs.declared.limits.TheConstants.{MOST_ARRAY_INDEX, MOST_INDEX}
+use Rattle.std.specs.Prelude.{ℕ, Result, Ok, Err}
+use Rattle.jo_value.specs.declared.key.KeyOutside.{KeyOutside}
 use Rattle.jo_value.specs.declared.value.Key.{Key}
-use Rattle.jo_value.specs.declared.value.Key.TheVariants.{Name, Index}
 use Rattle.jo_value.specs.declared.value.Value.{Value}
 use Rattle.jo_value.specs.declared.value.Value.TheVariants as value
-use Rattle.jo_value.specs.Texts.{Table, id_in, is_digit}
+use Rattle.jo_value.specs.Keys.{key_of_int, key_of_id}
+use Rattle.jo_value.specs.Texts.{Table, id_in}
 use Rattle.jo_tree.specs.Words.{keyword_text}
 use Rattle.jo_tree.specs.declared.word.Name.{Name as Word}
 use Rattle.jo_tree.specs.declared.word.Name.TheVariants as word
 use Rattle.jo_tree.specs.declared.word.PropKey.{PropKey}
 use Rattle.jo_tree.specs.declared.word.PropKey.TheVariants as prop
 use Rattle.jo_model.specs.declared.call.Outcome.{Outcome}
-use Rattle.jo_model.specs.declared.call.Outcome.TheVariants.{KeyOutside}
-use Rattle.jo_meaning.specs.Values.{is_empty}
-
--- ---- texts that are array indexes
-
--- the number that decimal digits go on to, where others stand before them
-abbrev pub digits_from : ℕ → List ℕ → Option ℕ
-digits_from before [] = Some before
-digits_from before (b ∷ text) = if is_digit b then digits_from (before * 10 + (b - 48)) text else None
-
--- the number whose decimal digits the text is; the first one is 0 only where it stands alone
-abbrev pub numeral : List ℕ → Option ℕ
-numeral [] = None
-numeral (b ∷ text) = if b == 48 && not (is_empty text) then None else digits_from 0 (b ∷ text)
+use Rattle.jo_model.specs.declared.call.Outcome.TheVariants as outcome
 
 -- ---- keys
 
--- the key with an index, or KeyOutside where the limit is below it
-abbrev pub key_at : ℕ → Result Key Outcome
-key_at n = if nat_le n MOST_INDEX then Ok (Index n) else Err KeyOutside
+-- what is no key is the fault KeyOutside
+abbrev pub or_outside : Result Key KeyOutside → Result Key Outcome
+or_outside (Ok key) = Ok key
+or_outside (Err outside) = Err outcome.KeyOutside
 
--- a text that is an array index is that index, and any other a name
-abbrev pub key_by : ℕ → Option ℕ → Result Key Outcome
-key_by id None = Ok (Name (record { 0 = id }))
-key_by id (Some n) = if nat_le n MOST_ARRAY_INDEX then key_at n else Ok (Name (record { 0 = id }))
-
--- the key of the text with an id; KeyOutside where the table lacks it
-abbrev pub key_of_text : ℕ → Option (List ℕ) → Result Key Outcome
-key_of_text id None = Err KeyOutside
-key_of_text id (Some text) = key_by id (numeral text)
-
--- the key that a value is, or KeyOutside; other than ToPropertyKey it takes numbers and texts alone
+-- the key that a value is, or the fault; other than ToPropertyKey it takes numbers and texts alone
 abbrev pub key_in : Table → Value → Result Key Outcome
-key_in texts (value.Int (pos n)) = key_at n
-key_in texts (value.Text t) = key_of_text t.0 (slice_get texts t.0)
-key_in texts _ = Err KeyOutside
+key_in texts (value.Int i) = or_outside (key_of_int i)
+key_in texts (value.Text t) = or_outside (key_of_id texts t.0)
+key_in texts _ = Err outcome.KeyOutside
 
 -- ---- words that name properties
 

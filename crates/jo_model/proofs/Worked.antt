@@ -1,7 +1,8 @@
 -- Worked cases of the definitions: what they compute at small objects, heaps, scripts and histories, edge by edge.
-use Rattle.std.proofs.Common.{refl, inl, arith}
-use Rattle.std.specs.Prelude.{◌≡◌, ◌+◌, ◌*◌, ◌<◌, ◌≤◌, ℕ, zero, suc, pos, negsuc, true, false, List, [], ◌∷◌, ◌++◌, codes, replicate}
+use Rattle.std.proofs.Common.{refl, inl, inr, arith, subst}
+use Rattle.std.specs.Prelude.{◌≡◌, ◌+◌, ◌*◌, ◌<◌, ◌≤◌, ℕ, zero, suc, pos, negsuc, true, false, List, [], ◌∷◌, ◌++◌, codes, replicate, slice_get, Some}
 use Rattle.std.specs.Fmt.{digits}
+use Rattle.std.proofs.lemmas.List.Elements.{All-nil, All-from_recursion}
 use Rattle.jo_value.specs.Texts.{Table, table_of}
 use Rattle.jo_value.specs.Values.{is_strictly_equal}
 use Rattle.jo_value.specs.declared.limits.TheConstants.{MOST_STORAGE, MOST_NEED}
@@ -21,7 +22,11 @@ use Rattle.jo_model.specs.One.{one}
 use Rattle.jo_model.specs.History.{Entry, History, IsLegal, IsLawfulSpent, is_change, calls_of}
 use Rattle.jo_model.specs.Printed.{line_of}
 use Rattle.jo_model.specs.Rendered.{outcome_bytes, run_bytes, object_line, heap_bytes}
-use Rattle.jo_model.specs.Placed.{HeapChange, after, PlacedCall, IsInOwnOrder, IsPlacedChange, IsPlacedUnchanging, weave}
+use Rattle.jo_model.specs.Logs.{change, mark, Log, changes_of, after, heap_at, IsLawfulLog}
+use Rattle.jo_model.specs.Placed.{PlacedCall, IsInOwnOrder, IsPlacedChange, IsPlacedUnchanging, IsLawfulPlaced, weave}
+use Rattle.jo_model.specs.Joined.{HasItsChanges, IsPlacedBy, ArePlaced}
+use Rattle.jo_model.proofs.Joined.{joined}
+use Rattle.jo_model.proofs.Growing.{log-nil, log-change, log-mark}
 
 -- The words of the cases.
 
@@ -121,15 +126,15 @@ pub names_come_in_order_of_creation :
     (reply.Names (record { 0 = 5 } ∷ record { 0 = 2 } ∷ record { 0 = 9 } ∷ []))
 names_come_in_order_of_creation = refl
 
--- Swaps.
+-- Calls of Cas.
 
--- a swap replaces a value that is strictly equal, in its place, and gives the one found
+-- a Cas replaces a value that is strictly equal, in its place, and gives the one found
 pub a_swap_replaces_an_equal_value :
     at three (call.Cas shared (name 1) (number 2) (number 8))
     ≡ gives (object (named 0 (number 1) ∷ named 1 (number 8) ∷ named 2 (number 3) ∷ []) []) (reply.Found (number 2))
 a_swap_replaces_an_equal_value = refl
 
--- a swap at another value gives that value and changes nothing
+-- a Cas at another value gives that value and changes nothing
 pub a_swap_at_another_value_changes_nothing :
     at three (call.Cas shared (name 1) (number 3) (number 8)) ≡ gives three (reply.Found (number 2))
 a_swap_at_another_value_changes_nothing = refl
@@ -139,12 +144,12 @@ pub a_swap_takes_no_text_for_a_number :
     at three (call.Cas shared (name 1) (text 2) (number 8)) ≡ gives three (reply.Found (number 2))
 a_swap_takes_no_text_for_a_number = refl
 
--- a swap at a key that is not there gives undefined and changes nothing, also where undefined is expected
+-- a Cas at a key that is not there gives undefined and changes nothing, also where undefined is expected
 pub a_swap_at_a_key_that_is_not_there_changes_nothing :
     at three (call.Cas shared (name 3) value.Undefined (number 8)) ≡ gives three (reply.Found value.Undefined)
 a_swap_at_a_key_that_is_not_there_changes_nothing = refl
 
--- a swap at a key that holds undefined replaces it
+-- a Cas at a key that holds undefined replaces it
 pub a_swap_at_a_key_that_holds_undefined_replaces_it :
     at (object (named 0 value.Undefined ∷ []) []) (call.Cas shared (name 0) value.Undefined (number 8))
     ≡ gives (object (named 0 (number 8) ∷ []) []) (reply.Found value.Undefined)
@@ -185,9 +190,9 @@ numbered zero = []
 numbered (suc n) = numbered n ++ named n (number n) ∷ []
 
 -- pass 1 puts them
-abbrev puts : ℕ → List HeapChange
+abbrev puts : ℕ → Log (Unit {0})
 puts zero = []
-puts (suc n) = puts n ++ record { pass = 1; call = put (name n) n } ∷ []
+puts (suc n) = puts n ++ change 1 (put (name n) n) ∷ []
 
 -- 64 puts make an object of 64 names
 pub sixty_four_names_go_in : after 2 (puts 64) ≡ heap_of (object (numbered 64) [])
@@ -219,9 +224,9 @@ pub a_full_object_takes_an_index :
 a_full_object_takes_an_index = refl
 
 -- pass 1 puts these indexes, each with itself as its value
-abbrev puts_at : List ℕ → List HeapChange
+abbrev puts_at : List ℕ → Log (Unit {0})
 puts_at [] = []
-puts_at (i ∷ is) = record { pass = 1; call = put (Index i) i } ∷ puts_at is
+puts_at (i ∷ is) = change 1 (put (Index i) i) ∷ puts_at is
 
 -- indexes stand in rising order however they were put
 pub indexes_stand_in_rising_order :
@@ -253,11 +258,16 @@ one_object_more_is_refused = refl
 abbrev found : ℕ → Reply
 found n = reply.Found (number n)
 
--- the heap after three changes: an object of pass 1, a name on it, and the object under a name of the shared one
+-- three changes: an object of pass 1, a name on it, and the object under a name of the shared one
+abbrev three_changes : Log (Unit {0})
+three_changes =
+    change 1 call.New
+    ∷ change 1 (call.Put (record { pass = 1; serial = 0 }) (name 4) (number 7))
+    ∷ change 2 (call.Put shared (name 5) (value.Object (record { pass = 1; serial = 0 }))) ∷ []
+
+-- the heap after them
 pub three_changes_make_an_object_and_share_it :
-    after 3 (record { pass = 1; call = call.New }
-    ∷ record { pass = 1; call = call.Put (record { pass = 1; serial = 0 }) (name 4) (number 7) }
-    ∷ record { pass = 2; call = call.Put shared (name 5) (value.Object (record { pass = 1; serial = 0 })) } ∷ [])
+    after 3 three_changes
     ≡ ((object (named 5 (value.Object (record { pass = 1; serial = 0 })) ∷ []) [] ∷ [])
     ∷ (object (named 4 (number 7) ∷ []) [] ∷ []) ∷ [] ∷ [])
 three_changes_make_an_object_and_share_it = refl
@@ -284,12 +294,12 @@ a_new_object_is_a_change = refl
 pub a_refused_new_is_no_change : is_change ((three ∷ []) ∷ replicate 4096 empty_object ∷ []) call.New reply.ObjectsSpent ≡ false
 a_refused_new_is_no_change = refl
 
--- a swap that finds the expected value is a change, also where the desired one is the same
+-- a Cas that finds the expected value is a change, also where the desired one is the same
 pub a_swap_that_finds_the_expected_value_is_a_change :
     is_change (heap_of three) (call.Cas shared (name 1) (number 2) (number 2)) (found 2) ≡ true
 a_swap_that_finds_the_expected_value_is_a_change = refl
 
--- a swap that finds another value is none
+-- a Cas that finds another value is none
 pub a_swap_that_finds_another_value_is_no_change :
     is_change (heap_of three) (call.Cas shared (name 1) (number 3) (number 8)) (found 2) ≡ false
 a_swap_that_finds_another_value_is_no_change = refl
@@ -307,8 +317,8 @@ a_call_without_storage_is_no_change = refl
 -- Weaving.
 
 -- two passes each put a value under one name
-abbrev two_puts : List HeapChange
-two_puts = record { pass = 1; call = put (name 0) 1 } ∷ record { pass = 2; call = put (name 0) 2 } ∷ []
+abbrev two_puts : Log (Unit {0})
+two_puts = change 1 (put (name 0) 1) ∷ change 2 (put (name 0) 2) ∷ []
 
 -- a get of that name
 abbrev look : Call
@@ -372,7 +382,7 @@ the_woven_history_is_legal = (
 -- the put of pass 2 is a lawful change at its place
 pub a_put_at_its_place_is_a_lawful_change :
     IsPlacedChange 3 two_puts 2 (record { place = 1; call = put (name 0) 2; reply = reply.Done })
-a_put_at_its_place_is_a_lawful_change = record { entry = refl; reply = refl; change = refl }
+a_put_at_its_place_is_a_lawful_change = record { entry = refl; reply = refl; changing = refl }
 
 -- the read between the two puts is lawful, and no change
 pub a_read_between_two_puts_is_lawful :
@@ -399,7 +409,7 @@ the_calls_of_a_pass_keep_their_order = refl
 
 -- a refusal for want of storage stands at its place and leaves the heap as it is, so the next read still finds the old value
 pub a_weave_keeps_a_refusal_for_want_of_storage :
-    weave (record { pass = 1; call = put (Index 0) 1 } ∷ [])
+    weave {M = Unit {0}} (change 1 (put (Index 0) 1) ∷ [])
     ([] ∷ (record { place = 0; call = put (Index 0) 1; reply = reply.Done }
     ∷ record { place = 1; call = put (Index 9) 2; reply = reply.Spent (record { used = 5; need = 9 }) }
     ∷ record { place = 1; call = call.Get shared (Index 9); reply = reply.Found value.Undefined } ∷ []) ∷ [])
@@ -421,6 +431,22 @@ a_call_after_455_changes_may_be_refused =
       used = omega arith;
     }
 
+-- a New may be refused so too
+pub a_new_may_be_refused_for_want_of_storage : IsLawfulSpent 455 call.New (reply.Spent (record { used = 1046277; need = 2300 }))
+a_new_may_be_refused_for_want_of_storage =
+    record {
+      spent = record { used = 1046277; need = 2300 };
+      answered = refl;
+      takes = tt;
+      over = omega arith;
+      need = omega arith;
+      used = omega arith;
+    }
+
+-- a Get takes no storage, and may not
+pub no_get_is_refused_for_want_of_storage : (made : ℕ) (r : Reply) → IsLawfulSpent made look r → ⊥
+no_get_is_refused_for_want_of_storage made r h = h.takes
+
 -- after 454 changes no call may be
 pub no_call_after_454_changes_may_be_refused : (c : Call) (r : Reply) → IsLawfulSpent 454 c r → ⊥
 no_call_after_454_changes_may_be_refused c r h =
@@ -428,6 +454,131 @@ no_call_after_454_changes_may_be_refused c r h =
     let need : h.spent.need ≤ MOST_NEED = h.need in
     let over : MOST_STORAGE < h.spent.used + h.spent.need = h.over in
     omega (arith, used, need, over)
+
+-- Marks.
+
+-- the two puts with a mark of pass 2 between them
+abbrev marked : Log ℕ
+marked = change 1 (put (name 0) 1) ∷ mark 2 7 ∷ change 2 (put (name 0) 2) ∷ []
+
+-- the shared object with one value under that name
+abbrev holding : ℕ → Heap
+holding v = (object (named 0 (number v) ∷ []) [] ∷ []) ∷ [] ∷ [] ∷ []
+
+-- a mark changes nothing
+pub a_mark_changes_nothing : after 3 marked ≡ after 3 two_puts
+a_mark_changes_nothing = refl
+
+-- the heap is the same before a mark and after it
+pub the_heap_before_a_mark_is_the_heap_after_it : (heap_at 3 1 marked ≡ holding 1) × (heap_at 3 2 marked ≡ holding 1) × (heap_at 3 3 marked ≡ holding 2)
+the_heap_before_a_mark_is_the_heap_after_it = (refl, refl, refl)
+
+-- a mark is no change of its pass
+pub a_mark_is_counted_as_no_change : (changes_of 1 marked ≡ 1) × (changes_of 2 marked ≡ 1) × (changes_of 0 marked ≡ 0)
+a_mark_is_counted_as_no_change = (refl, refl, refl)
+
+-- the calls of pass 2: a look before the mark, one at it, one behind it, its put, and a look at the end
+abbrev around_a_mark : List PlacedCall
+around_a_mark =
+    record { place = 0; call = look; reply = reply.Found value.Undefined }
+    ∷ record { place = 1; call = look; reply = found 1 }
+    ∷ record { place = 2; call = call.Has shared (name 0); reply = reply.Flag true }
+    ∷ record { place = 2; call = put (name 0) 2; reply = reply.Done }
+    ∷ record { place = 3; call = look; reply = found 2 }
+    ∷ []
+
+-- pass 1 makes its put alone
+abbrev before_a_mark : List PlacedCall
+before_a_mark = record { place = 0; call = put (name 0) 1; reply = reply.Done } ∷ []
+
+-- the calls of all passes
+abbrev calls_around_a_mark : List (List PlacedCall)
+calls_around_a_mark = [] ∷ before_a_mark ∷ around_a_mark ∷ []
+
+-- the history has no mark, and each look stands after as many changes as the entries before it hold
+pub a_weave_leaves_marks_out :
+    weave marked calls_around_a_mark
+    ≡ (entry 2 look (reply.Found value.Undefined)
+    ∷ entry 1 (put (name 0) 1) reply.Done
+    ∷ entry 2 look (found 1)
+    ∷ entry 2 (call.Has shared (name 0)) (reply.Flag true)
+    ∷ entry 2 (put (name 0) 2) reply.Done
+    ∷ entry 2 look (found 2) ∷ [])
+a_weave_leaves_marks_out = refl
+
+-- a change behind a mark has the mark before it
+pub a_mark_raises_the_place_of_a_change : IsPlacedChange 3 marked 2 (record { place = 2; call = put (name 0) 2; reply = reply.Done })
+a_mark_raises_the_place_of_a_change = record { entry = refl; reply = refl; changing = refl }
+
+-- the same change is not lawful at the place of the mark
+pub no_change_is_lawful_at_the_place_of_another_entry :
+    IsLawfulPlaced 3 marked 2 (record { place = 1; call = put (name 0) 2; reply = reply.Done }) → ⊥
+no_change_is_lawful_at_the_place_of_another_entry (inl c) = let wrong = c.entry in cc
+no_change_is_lawful_at_the_place_of_another_entry (inr (inl u)) = let wrong = u.unchanging in cc
+no_change_is_lawful_at_the_place_of_another_entry (inr (inr r)) = let wrong = r.refused.answered in cc
+
+-- the look behind the mark is lawful, and no change
+pub a_look_behind_a_mark_is_lawful : IsPlacedUnchanging 3 marked 2 (record { place = 2; call = call.Has shared (name 0); reply = reply.Flag true })
+a_look_behind_a_mark_is_lawful = record { place = omega arith; same = refl; unchanging = refl }
+
+-- a pass that has a change in the log has it among its calls
+pub a_pass_without_calls_has_no_change : HasItsChanges 3 marked 2 [] → ⊥
+a_pass_without_calls_has_no_change h = let wrong : 1 ≡ 0 = h in omega (arith, wrong)
+
+-- the marked log, one entry after another
+pub two_puts_and_a_mark_are_a_log : IsLawfulLog 3 marked
+two_puts_and_a_mark_are_a_log =
+    log-change 3 (change 1 (put (name 0) 1) ∷ mark 2 7 ∷ [])
+    (log-mark 3 (change 1 (put (name 0) 1) ∷ []) (log-change 3 [] (log-nil 3) 1 (put (name 0) 1) (omega arith) refl) 2 7 (omega arith))
+    2 (put (name 0) 2) (omega arith) refl
+
+of_each_pass : (pass : ℕ) (of_pass : List PlacedCall) → slice_get calls_around_a_mark pass ≡ Some of_pass → IsPlacedBy 3 marked pass of_pass
+of_each_pass zero of_pass is =
+    let same : [] ≡ of_pass = cc in
+    subst (IsPlacedBy 3 marked 0) same (record { lawful = All-nil (IsLawfulPlaced 3 marked 0); ordered = tt; changes = refl })
+of_each_pass (suc zero) of_pass is =
+    let same : before_a_mark ≡ of_pass = cc in
+    subst (IsPlacedBy 3 marked 1) same (record {
+      lawful = All-from_recursion (IsLawfulPlaced 3 marked 1) before_a_mark (inl (record { entry = refl; reply = refl; changing = refl }), tt);
+      ordered = (omega arith, tt);
+      changes = refl;
+    })
+of_each_pass (suc (suc zero)) of_pass is =
+    let same : around_a_mark ≡ of_pass = cc in
+    subst (IsPlacedBy 3 marked 2) same (record {
+      lawful = All-from_recursion (IsLawfulPlaced 3 marked 2) around_a_mark (
+        inr (inl (record { place = omega arith; same = refl; unchanging = refl })),
+        (
+          inr (inl (record { place = omega arith; same = refl; unchanging = refl })),
+          (
+            inr (inl (record { place = omega arith; same = refl; unchanging = refl })),
+            (
+              inl (record { entry = refl; reply = refl; changing = refl }),
+              (inr (inl (record { place = omega arith; same = refl; unchanging = refl })), tt),
+            ),
+          ),
+        ),
+      );
+      ordered = (omega arith, (omega arith, (omega arith, (omega arith, (omega arith, tt)))));
+      changes = refl;
+    })
+of_each_pass (suc (suc (suc pass))) of_pass is = absurd (cc)
+
+-- all that the weave asks of a log and calls holds of these
+pub calls_around_a_mark_are_placed : ArePlaced 3 marked calls_around_a_mark
+calls_around_a_mark_are_placed = record { all = refl; logged = two_puts_and_a_mark_are_a_log; each = of_each_pass }
+
+-- so their weave is legal
+pub the_woven_history_of_a_log_with_a_mark_is_legal : IsLegal 3 (weave marked calls_around_a_mark)
+the_woven_history_of_a_log_with_a_mark_is_legal = (joined 3 marked calls_around_a_mark calls_around_a_mark_are_placed).legal
+
+-- a delete of a name that is not there changes nothing, so it is in no log
+pub no_log_has_an_entry_that_changes_nothing : IsLawfulLog {M = ℕ} 2 (change 1 (call.Delete shared (name 0)) ∷ []) → ⊥
+no_log_has_an_entry_that_changes_nothing h = let wrong = h.changes 0 1 (call.Delete shared (name 0)) refl in cc
+
+-- no pass but the heap's leaves a mark
+pub no_log_has_a_mark_of_a_pass_that_is_not_there : IsLawfulLog {M = ℕ} 2 (mark 2 7 ∷ []) → ⊥
+no_log_has_a_mark_of_a_pass_that_is_not_there h = let wrong : 2 < 2 = h.made 0 (mark 2 7) refl in omega (arith, wrong)
 
 -- Text.
 

@@ -7,7 +7,7 @@ use Rattle.jo_model.specs.Objects.{Object, empty_object}
 abbrev pub Heap : Type 0
 Heap = List (List Object)
 
--- object 0.0, which every script sees
+-- object 0.0, the one that scripts share
 abbrev pub shared : ObjId
 shared = record { pass = 0; serial = 0 }
 

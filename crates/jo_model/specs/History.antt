@@ -31,7 +31,7 @@ is_refusal reply.TooManyNames = true
 is_refusal reply.ObjectsSpent = true
 is_refusal (reply.Spent spent) = true
 
--- whether a call changes this heap where it is not refused; a Put does so also where the value was the same
+-- whether a call counts as a change of this heap where it is not refused; a Put does also where the value was the same
 abbrev pub would_change : Heap → Call → Bool
 would_change heap call.New = true
 would_change heap (call.Get o key) = false
@@ -59,9 +59,10 @@ changes_by pass heap [] = 0
 changes_by pass heap (e ∷ w) =
     (if e.pass == pass && is_change heap e.call e.reply then 1 else 0) + changes_by pass (after_entry heap e) w
 
--- the calls that may be refused for want of storage
+-- The calls that may be refused for want of storage. A New is one of them for as long as an object is born with a block
+-- of storage; once it is born with none, it takes none.
 abbrev pub MayTakeStorage : Call → Type 0
-MayTakeStorage call.New = ⊥
+MayTakeStorage call.New = Unit {0}
 MayTakeStorage (call.Get o key) = ⊥
 MayTakeStorage (call.Has o key) = ⊥
 MayTakeStorage (call.Names o) = ⊥
@@ -70,7 +71,7 @@ MayTakeStorage (call.Delete o key) = Unit {0}
 MayTakeStorage (call.Cas o key expected desired) = ⊥
 
 -- A refusal for want of storage is lawful where used and needed together are more than a pass has, the need is at most
--- what one call takes, and used is at most that much for each change that the pass has made.
+-- what one call takes at most, and used is at most that much for each change that the pass has made.
 pub record IsLawfulSpent (made : ℕ) (call : Call) (answer : Reply) : Type 0 where
   pub spent : Spent
   pub answered : answer ≡ reply.Spent spent

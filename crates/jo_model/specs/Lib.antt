@@ -1,9 +1,14 @@
 pub mod Objects
 pub mod Heaps
 pub mod One
+pub mod WellFormed
 pub mod History
+pub mod Logs
 pub mod Placed
+pub mod Joined
+pub mod inner
 pub mod Printed
 pub mod Rendered
 pub mod Calls
-pub mod Plain
+pub mod Valid
+pub mod Fits

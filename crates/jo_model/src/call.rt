@@ -1,7 +1,6 @@
 // Calls on the heap, their replies, and how a script ends.
-use arrayvec::ArrayVec;
-use jo_value::{Key, MOST_NAMES, NameId, ObjId, Value};
-use std::marker::Model;
+use crate::NameList;
+use jo_value::{Key, ObjId, Value};
 
 /// A call of a script on the heap.
 #[derive(Clone, Copy)]
@@ -49,7 +48,7 @@ pub enum Reply {
     Made(ObjId),
     /// To `Get` and `Cas`: the value that was found, or undefined for none.
     Found(Value),
-    /// To `Has` and `Delete`.
+    /// To `Has`, and to `Delete`, which is always answered true.
     Flag(bool),
     /// To `Names`.
     Names(NameList),
@@ -59,7 +58,7 @@ pub enum Reply {
     TooManyNames,
     /// To `New`: the pass has made as many objects as it may.
     ObjectsSpent,
-    /// To `Put` and `Delete`: too little storage is left for the pass.
+    /// To `New`, `Put` and `Delete`: too little storage is left for the pass.
     Spent(Spent),
 }
 
@@ -68,21 +67,6 @@ pub enum Reply {
 pub struct Spent {
     pub used: u32,
     pub need: u32,
-}
-
-/// At most 64 names, in order. Contracts see the list of them.
-#[derive(Drop)]
-pub struct NameList {
-    list: ArrayVec<NameId, MOST_NAMES>,
-}
-
-impl Model for NameList {
-    ghost use Rattle.std.specs.Prelude.{List};
-    ghost use Rattle.jo_value.specs.declared.value.NameId.{NameId};
-
-    ghost Value = { List NameId };
-
-    ghost view = { λ names. names.list.items };
 }
 
 /// How a script ended.
@@ -94,16 +78,16 @@ pub enum Outcome {
     TypeFault,
     /// A number left the range of numbers, or a remainder's divisor was 0.
     NotSafe,
-    /// A key was none.
+    /// A key value was no index within the limit and no name.
     KeyOutside,
     /// All turns of loops were taken.
     TurnsSpent,
     /// A line found no room.
     OutputFull,
-    /// A call was answered so.
+    /// A Put was answered so.
     TooManyNames,
-    /// A call was answered so.
+    /// A New was answered so.
     ObjectsSpent,
-    /// A call was answered so.
+    /// A New, a Put or a Delete was answered so.
     Spent,
 }

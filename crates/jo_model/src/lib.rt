@@ -2,7 +2,10 @@
 #![tactic(auto)]
 
 mod call;
+mod fits;
+mod name_list;
 mod plain;
 
-pub use call::{Call, NameList, Outcome, Reply, Spent};
+pub use call::{Call, Outcome, Reply, Spent};
+pub use name_list::NameList;
 pub use plain::{PlainHeap, PlainObject};

@@ -1,5 +1,5 @@
 -- What is answered to the faults of the uses of parts that follow one another.
-use Rattle.std.proofs.Common.{◌≡◌, ◌<◌, ℕ, ◌+◌, List, [], ◌∷◌, ◌++◌, Bool, true, false, Result, Ok, Err, refl, ap, sym, ◌∙◌, arith, drop, length, get_or, append-nil, add-one, suc}
+use Rattle.std.proofs.Common.{◌≡◌, ◌<◌, ℕ, ◌+◌, List, [], ◌∷◌, ◌++◌, Result, Ok, Err, refl, ap, sym, ◌∙◌, arith, drop, length, get_or, append-nil, add-one, suc}
 use Rattle.std.proofs.Math.Seq.{drop-cons}
 use Rattle.jo_lex.specs.declared.refusal.Refusal.{Refusal}
 use Rattle.jo_tree.specs.declared.word.Ident.{Ident}

@@ -6,7 +6,7 @@ use Rattle.jo_tree.specs.declared.script.Item.TheVariants as i
 use Rattle.jo_tree.specs.Trees.{Items, declare, perform}
 use Rattle.jo_tree.specs.ScriptViews.{let_list, statement_tree, items_list}
 use Rattle.jo_tree.proofs.Shapes.{shapes}
-use Rattle.jo_tree.proofs.ScriptShapes.{script_shapes, bindings_list-push, trees_list-push}
+use Rattle.jo_tree.proofs.ScriptShapes.{script_shapes}
 use Rattle.jo_grammar.specs.inner.Read.{open_at, peek, next}
 use Rattle.jo_grammar.specs.inner.ReadStatements.{read_statement, statement_at, with_item, item_at, item_then, script_from}
 use Rattle.jo_grammar.specs.Refusals.{unexpected}

@@ -2,7 +2,7 @@
 
 use std::alloc::AllocError;
 
-/// After a refusal the parser stands at the offending token, so none is named.
+/// After a refusal the parser stands at the offending terminal, so none is named.
 #[derive(Clone, Copy)]
 pub(crate) enum Stop {
     Memory,

@@ -1,2 +1,7 @@
 pub mod Places
 mod Numbers
+pub mod Numerals
+pub mod BitPlaces
+pub mod Worked
+pub mod Canonical
+pub mod Distinct

@@ -1,2 +1,4 @@
 pub mod Texts
 pub mod Values
+pub mod Keys
+pub mod Words

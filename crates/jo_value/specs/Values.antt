@@ -1,6 +1,7 @@
--- When two values, or two names, are the same.
-use Rattle.std.specs.Prelude.{◌==◌, ◌&&◌, not, Bool, true, false}
+-- When two values, or two names, are the same; and which values are in range.
+use Rattle.std.specs.Prelude.{◌==◌, ◌&&◌, ◌<◌, ◌≤◌, nat_abs, not, Bool, true, false}
 use Rattle.std.specs.Ordering.{int_eq}
+use Rattle.jo_value.specs.declared.limits.TheConstants.{MOST_NUMBER, MOST_OBJECTS}
 use Rattle.jo_value.specs.declared.value.NameId.{NameId}
 use Rattle.jo_value.specs.declared.value.ObjId.{ObjId}
 use Rattle.jo_value.specs.declared.value.Value.{Value}
@@ -25,3 +26,9 @@ is_strictly_equal (value.Int a) (value.Int b) = int_eq a b
 is_strictly_equal (value.Text a) (value.Text b) = a.0 == b.0
 is_strictly_equal (value.Object a) (value.Object b) = is_same_object a b
 is_strictly_equal _ _ = false
+
+-- a number is not too far from 0, and the serial of an object is one that a pass gives
+abbrev pub IsInRange : Value → Type 0
+IsInRange (value.Int i) = nat_abs i ≤ MOST_NUMBER
+IsInRange (value.Object o) = o.serial < MOST_OBJECTS
+IsInRange _ = Unit {0}

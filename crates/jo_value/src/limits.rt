@@ -44,3 +44,6 @@ pub const MOST_STORAGE: u32 = 1_048_576;
 
 /// The most words of storage that one call takes.
 pub const MOST_NEED: u32 = 2_300;
+
+/// The largest number from which a set of scripts is made.
+pub const MOST_MADE: u32 = 999_999;

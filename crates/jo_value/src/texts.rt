@@ -1,7 +1,8 @@
 // The table of the texts of a set of scripts.
-ghost use Rattle.std.specs.Prelude.{◌≡◌, ◌<◌, ◌↔◌, [], ◌∷◌, ◌++◌, length, slice_get, Some, IfOk, IfSome, IfNone, OnOk, OnErr, IsTrue, IsErrOf};
+ghost use Rattle.std.specs.Prelude.{◌≡◌, ◌<◌, ◌↔◌, [], ◌∷◌, ◌++◌, length, slice_get, Some, None, IfOk, IfSome, IfNone, OnOk, OnErr, IsTrue, IsErrOf};
 
-use crate::{MOST_TEXTS, TextId};
+use crate::key::array_index_of;
+use crate::{Key, KeyOutside, MOST_TEXTS, NameId, TextId};
 use indexmap::IndexSet;
 use std::alloc::{AllocError, Global};
 use std::marker::Model;
@@ -49,9 +50,10 @@ impl Model for Texts {
 }
 
 impl Texts {
+    ghost use Rattle.jo_value.specs.Keys.{key_of_id};
     ghost use Rattle.jo_value.specs.Texts.{interned, id_in, text_in};
 
-    /// An empty table. It takes no memory until a text is interned.
+    /// A table without texts. No memory is taken before the first one.
     pub fn new(alloc: Global) -> Texts
         ensures { result ≡ [] }
     {
@@ -119,9 +121,32 @@ impl Texts {
     pub fn bytes(&self, id: TextId) -> &[u8]
         ensures { result.now ≡ text_in self.now id.0 }
     {
-        match self.texts.as_slice().get(usize::from(id.0)) {
+        match self.text(id) {
             Some(text) => text.as_bytes(),
             None => b"",
+        }
+    }
+
+    // The text with this id, where the table has it.
+    fn text(&self, id: TextId) -> Option<&str>
+        ensures some { IfSome result (λ text. slice_get self.now id.0 ≡ Some text.now) }
+        ensures none { IfNone result (slice_get self.now id.0 ≡ None) }
+    {
+        match self.texts.as_slice().get(usize::from(id.0)) {
+            Some(text) => Some(text.as_str()),
+            None => None,
+        }
+    }
+
+    /// The key that a text is, by its id: an index for an array index, else the name with that id.
+    /// `Err` is an array index above `MOST_INDEX`, or an id that the table lacks.
+    pub fn key(&self, id: TextId) -> Result<Key, KeyOutside>
+        ensures { result ≡ key_of_id self.now id.0 }
+    {
+        let text = self.text(id).ok_or(KeyOutside)?;
+        match array_index_of(text) {
+            Some(index) => Key::at(index),
+            None => Ok(Key::Name(NameId(id.0))),
         }
     }
 

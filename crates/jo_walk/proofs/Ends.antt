@@ -1,9 +1,14 @@
 -- The run of a script of the form, alone, leaves what its steps do.
-use Rattle.std.proofs.Common.{◌≡◌, ℕ, ◌+◌, ℤ, List, [], ◌∷◌, ◌++◌, Bool, true, false, not, Option, Some, None, refl, sym, ap, ◌∙◌, length, subst, true≢false}
-use Rattle.std.specs.Prelude.{if◌then◌else◌, nat_le, slice_get, unwrap_or, Ok, ◌&&◌, ◌==◌}
+use Rattle.std.proofs.Common.{◌≡◌, ℕ, ◌+◌, ℤ, List, [], ◌∷◌, ◌++◌, Bool, true, false, Option, Some, None, refl, sym, ap, ◌∙◌, length, subst, true≢false}
+use Rattle.std.specs.Prelude.{if◌then◌else◌, nat_le, slice_get, unwrap_or, Ok, ◌&&◌}
 use Rattle.std.proofs.lemmas.Option.{none-some, cond_some, unwrap_or-slice_get}
-use Rattle.jo_value.specs.Texts.{Table, text_in, is_digit}
-use Rattle.jo_value.specs.declared.limits.TheConstants.{MOST_LINE_BYTES}
+use Rattle.jo_value.specs.Keys.{is_unpadded, array_index, key_by, key_of_text}
+use Rattle.jo_value.specs.Texts.{Table, text_in}
+use Rattle.std.specs.Char.{is_ascii_digit}
+use Rattle.std.specs.Str.{all_ascii_digits}
+use Rattle.std.specs.Str.Parse.{digits_value}
+use Rattle.std.proofs.lemmas.Bool.{not-true}
+use Rattle.jo_value.specs.declared.limits.TheConstants.{MOST_ARRAY_INDEX, MOST_LINE_BYTES}
 use Rattle.jo_value.specs.declared.value.NameId.{NameId}
 use Rattle.jo_value.specs.declared.value.Key.TheVariants.{Name}
 use Rattle.jo_value.specs.declared.value.Value.{Value}
@@ -28,8 +33,7 @@ use Rattle.jo_meaning.specs.Expressions.{evaluates, evaluates_each}
 use Rattle.jo_meaning.specs.Statements.{executes, executes_all}
 use Rattle.jo_meaning.specs.Scripts.{interaction_of, state_at_start}
 use Rattle.jo_meaning.specs.Histories.{IsHistoryOf, played_alone}
-use Rattle.jo_meaning.specs.Keys.{numeral, key_by, key_of_text, name_id}
-use Rattle.jo_meaning.specs.Values.{is_empty}
+use Rattle.jo_meaning.specs.Keys.{or_outside, name_id}
 use Rattle.jo_meaning.proofs.Alone.{history_of_script, heap_alone, lines_alone, entries_of-play}
 use Rattle.jo_form.proofs.Fronts.{inside, front, few_steps}
 use Rattle.jo_form.specs.Forms.{number_in, is_word, shared_name, shared_names, put_of, print_of, step_of, steps_of, form_of}
@@ -52,23 +56,20 @@ Leaves next rest = (s : State) (heap : Heap) → end_of (next s) heap ≡ rest h
 
 -- ---- keys
 
--- a text that begins with no digit is no numeral
-no_digits : (d : Bool) (x : Option ℕ) → not d ≡ true → (if d then x else None) ≡ None
-no_digits true x w = absurd (true≢false (sym w))
-no_digits false x w = refl
+-- a text that begins with no digit is no array index
+no_digits : (first digit more small : Bool) (n : ℕ) → digit ≡ false → (if (first && (digit && more)) && small then Some n else None) ≡ None
+no_digits true digit more small n e = ap (λ d. if (d && more) && small then Some n else None) e
+no_digits false digit more small n e = refl
 
-no_more : (b : Bool) (x : Option ℕ) → x ≡ None → (if b then None else x) ≡ None
-no_more true x e = refl
-no_more false x e = e
-
-no_numeral : (text : List ℕ) → is_word text ≡ true → numeral text ≡ None
-no_numeral [] w = refl
-no_numeral (b ∷ text) w = no_more (b == 48 && not (is_empty text)) _ (no_digits (is_digit b) _ w)
+no_index : (text : List ℕ) → is_word text ≡ true → array_index text ≡ None
+no_index [] w = refl
+no_index (b ∷ text) w =
+    no_digits (is_unpadded (b ∷ text)) (is_ascii_digit b) (all_ascii_digits text) (nat_le (digits_value 10 (b ∷ text)) MOST_ARRAY_INDEX) (digits_value 10 (b ∷ text)) (not-true (is_ascii_digit b) w)
 
 -- it is the key by its id
-key_named : (id : ℕ) (text : Option (List ℕ)) → is_word (unwrap_or text []) ≡ true → key_of_text id text ≡ Ok (Name (record { 0 = id }))
+key_named : (id : ℕ) (text : Option (List ℕ)) → is_word (unwrap_or text []) ≡ true → or_outside (key_of_text id text) ≡ Ok (Name (record { 0 = id }))
 key_named id None w = absurd (true≢false (sym w))
-key_named id (Some text) w = ap (key_by id) (no_numeral text w)
+key_named id (Some text) w = ap (λ n. or_outside (key_by id n)) (no_index text w)
 
 found_word : (texts : Table) (id : ℕ) → is_word (text_in texts id) ≡ true → is_word (unwrap_or (slice_get texts id) []) ≡ true
 found_word texts id w = subst (λ t. is_word t ≡ true) (sym (unwrap_or-slice_get texts id [])) w

@@ -23,7 +23,8 @@ use Rattle.jo_model.specs.declared.call.Reply.TheVariants as reply
 use Rattle.jo_model.specs.declared.call.Outcome.{Outcome}
 use Rattle.jo_model.specs.declared.call.Outcome.TheVariants as outcome
 use Rattle.jo_model.specs.Objects.{Object, empty_object, name_place, has_property, is_full_for, with_value, with_property}
-use Rattle.jo_model.specs.Heaps.{Heap, heap_at_start}
+use Rattle.jo_model.specs.Heaps.{Heap, shared, heap_at_start}
+use Rattle.jo_model.specs.One.{in_heap}
 use Rattle.jo_model.specs.Printed.{line_of}
 use Rattle.jo_form.specs.Forms.{names_of_step, with_id, each_once, has_few_names}
 use Rattle.jo_form.specs.declared.form.Step.{Step}
@@ -149,9 +150,9 @@ heap_with o objects pass passes = (o ∷ objects) ∷ pass ∷ passes
 -- what a put of the shared object makes
 abbrev pub made : Bool → Bool → Object → List Object → List Object → Heap → NameId → Value → Heap × Reply
 made there full o objects pass passes name v =
-    if there then (heap_with (with_value o (Name name) v) objects pass passes, reply.Done)
-    else (if full then (heap_with o objects pass passes, reply.TooManyNames)
-    else (heap_with (with_property o (Name name) v) objects pass passes, reply.Done))
+    in_heap (heap_with o objects pass passes) shared (
+    if there then (with_value o (Name name) v, reply.Done)
+    else (if full then (o, reply.TooManyNames) else (with_property o (Name name) v, reply.Done)))
 
 -- what is left after a call, and the steps after it
 abbrev pub from_call : Table → List Step → List ℕ → Heap × Reply → Stage

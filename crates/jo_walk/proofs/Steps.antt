@@ -1,6 +1,5 @@
 -- What a step does to the heap, and what is left after it.
-use Rattle.std.proofs.Common.{◌≡◌, ℕ, suc, ◌+◌, ◌<◌, ◌≤◌, List, [], ◌∷◌, ◌++◌, take, drop, get_or, drop-cons, Bool, true, false, Option, Some, sym, ap, ◌∙◌, length, subst, arith}
-use Rattle.std.specs.Prelude.{if◌then◌else◌}
+use Rattle.std.proofs.Common.{◌≡◌, ℕ, suc, ◌+◌, ◌<◌, ◌≤◌, List, [], ◌∷◌, ◌++◌, take, drop, get_or, drop-cons, Option, Some, sym, ap, ◌∙◌, length, subst, arith}
 use Rattle.std.proofs.lemmas.List.{take_more, map-append, drop_all}
 use Rattle.jo_value.specs.Texts.{Table}
 use Rattle.jo_value.specs.declared.value.NameId.{NameId}
@@ -10,9 +9,7 @@ use Rattle.jo_model.specs.declared.call.Call.TheVariants as call
 use Rattle.jo_model.specs.declared.call.Outcome.{Outcome}
 use Rattle.jo_model.specs.declared.call.Outcome.TheVariants as outcome
 use Rattle.jo_model.specs.declared.call.Reply.{Reply}
-use Rattle.jo_model.specs.declared.call.Reply.TheVariants as reply
-use Rattle.jo_model.specs.Objects.{has_property, is_full_for, with_value, with_property}
-use Rattle.jo_model.specs.Heaps.{Heap, shared, with_object, IsBorn}
+use Rattle.jo_model.specs.Heaps.{Heap, shared, IsBorn}
 use Rattle.jo_model.specs.One.{one}
 use Rattle.jo_form.specs.declared.form.Step.{Step}
 use Rattle.jo_walk.specs.inner.Walks.{Stage, IsReady, value_in, values_in, after_step, after_steps, unless_ended}
@@ -31,18 +28,9 @@ ready_born [] ready = absurd ready
 ready_born ([] ∷ passes) ready = absurd ready
 ready_born ((object ∷ objects) ∷ []) ready = absurd ready
 
-cond_ready : (b : Bool) (x y : Heap × Reply) → IsReady x.0 → IsReady y.0 → IsReady (if b then x else y).0
-cond_ready true x y p q = p
-cond_ready false x y p q = q
-
 -- a put of the shared object keeps it there
 ready_put : (heap : Heap) (key : Key) (value : Value) → IsReady heap → IsReady (one heap 1 (call.Put shared key value)).0
-ready_put ((object ∷ objects) ∷ pass ∷ passes) key value ready =
-    let heap : Heap = (object ∷ objects) ∷ pass ∷ passes in
-    let full : Heap × Reply = (heap, reply.TooManyNames) in
-    let more : Heap × Reply = (with_object heap shared (with_property object key value), reply.Done) in
-    cond_ready (has_property object key) (with_object heap shared (with_value object key value), reply.Done) (if is_full_for object key then full else more)
-    tt (cond_ready (is_full_for object key) full more tt tt)
+ready_put ((object ∷ objects) ∷ pass ∷ passes) key value ready = tt
 ready_put [] key value ready = absurd ready
 ready_put ([] ∷ passes) key value ready = absurd ready
 ready_put ((object ∷ objects) ∷ []) key value ready = absurd ready

@@ -1,4 +1,4 @@
--- How the tokens of an expression are read, step by step. The methods of the parser have these functions as their contracts; what they answer is proved exact, so nobody need believe them.
+-- How the terminals of an expression are read, step by step. The methods of the parser have these functions as their contracts; what they answer is proved exact, so nobody need believe them.
 use Rattle.std.specs.Prelude.{ℕ, zero, suc, ◌+◌, ◌-◌, ◌==◌, Bool, true, false, ◌&&◌, if◌then◌else◌, List, [], ◌∷◌, length, Option, None, Some, Result, Ok, Err}
 use Rattle.jo_lex.specs.declared.punct.Punct.{Punct}
 use Rattle.jo_lex.specs.declared.punct.Punct.TheVariants as p
@@ -20,7 +20,7 @@ use Rattle.jo_tree.specs.Trees.{Tree, number, literal, constant, variable, group
 use Rattle.jo_grammar.specs.Operators.{is_constant}
 use Rattle.jo_grammar.specs.Refusals.{Fault, unexpected, too_deep}
 
--- a value and the tokens after it, or a fault and the tokens from the offending one on
+-- a value and the terminals after it, or a fault and the terminals from the offending one on
 abbrev pub Reading : Type 0 → Type 0
 Reading A = Result (A × List Terminal) (Fault × List Terminal)
 
@@ -31,9 +31,9 @@ and_then (Err e) f = Err e
 abbrev pub Reader : Type 0 → Type 0
 Reader A = List Terminal → Reading A
 
--- ---- one token
+-- ---- one terminal
 
--- the next token, which is End where there is none
+-- the next terminal, which is End where there is none
 abbrev pub peek : List Terminal → Terminal
 peek [] = t.End
 peek (c ∷ r) = c
@@ -42,7 +42,7 @@ abbrev pub next : List Terminal → List Terminal
 next [] = []
 next (c ∷ r) = r
 
--- a code for each punctuator, keyword and kind of token
+-- a code for each punctuator, keyword and kind of terminal
 abbrev pub punct_code : Punct → ℕ
 punct_code p.OpenBrace = 0
 punct_code p.CloseBrace = 1
@@ -100,14 +100,14 @@ code t.End = 4
 code (t.Punct c) = 5 + punct_code c
 code (t.Keyword w) = 32 + keyword_code w
 
--- the next token is the one wanted, which is a punctuator or a keyword
+-- the next terminal is the one wanted, which is a punctuator or a keyword
 abbrev pub sees : Terminal → List Terminal → Bool
 sees c ts = code (peek ts) == code c
 
 unfoldable pub expect : Terminal → Reader (Unit {0})
 expect c ts = if sees c ts then Ok (tt, next ts) else Err (unexpected, ts)
 
--- takes a token that opens a construct, and says how many more may stand in it
+-- takes a terminal that opens a construct, and says how many more may stand in it
 abbrev pub open_at : ℕ → Reader ℕ
 open_at zero ts = Err (too_deep, ts)
 open_at (suc n) ts = Ok (n, next ts)
@@ -163,13 +163,13 @@ punct_rank p.Dot = 10
 punct_rank p.OpenBracket = 10
 punct_rank _ = 0
 
--- how tightly a token that follows an expression holds on to it; the flag says whether `in` does
+-- how tightly a terminal that follows an expression holds on to it; the flag says whether `in` does
 abbrev pub rank : Bool → Terminal → ℕ
 rank ins (t.Punct c) = punct_rank c
 rank true (t.Keyword kw.In) = 6
 rank _ _ = 0
 
--- the operator of a token of the ranks 3 to 8
+-- the operator of a terminal of the ranks 3 to 8
 abbrev pub binary_of : Terminal → BinaryOperator
 binary_of (t.Punct p.AndAnd) = bin.And
 binary_of (t.Punct p.Same) = bin.Same
@@ -185,13 +185,13 @@ binary_of (t.Punct p.Star) = bin.Times
 binary_of (t.Punct p.Percent) = bin.Remainder
 binary_of _ = bin.Or
 
--- the operator of a token of rank 1
+-- the operator of a terminal of rank 1
 abbrev pub assign_of : Terminal → AssignOperator
 assign_of (t.Punct p.PlusAssign) = a.Add
 assign_of (t.Punct p.MinusAssign) = a.Subtract
 assign_of _ = a.Set
 
--- the token is an operator before its operand, other than `delete`
+-- the terminal is an operator before its operand, other than `delete`
 abbrev pub is_sign : Terminal → Bool
 is_sign (t.Punct p.Minus) = true
 is_sign (t.Punct p.Bang) = true

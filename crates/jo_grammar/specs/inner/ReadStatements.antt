@@ -1,4 +1,4 @@
--- How the tokens of statements and scripts are read, step by step; as for expressions, nobody need believe these functions.
+-- How the terminals of statements and scripts are read, step by step; as for expressions, nobody need believe these functions.
 use Rattle.std.specs.Prelude.{ℕ, zero, suc, Bool, true, false, if◌then◌else◌, List, [], ◌∷◌, ◌++◌, length, Option, None, Some, Result, Ok, Err}
 use Rattle.jo_lex.specs.declared.punct.Punct.{Punct}
 use Rattle.jo_lex.specs.declared.punct.Punct.TheVariants as p
@@ -44,7 +44,7 @@ let_after room ins ts = and_then (binding_at room ins ts) (λ b r. bindings_from
 unfoldable pub in_brackets_at : ℕ → Reader Tree
 in_brackets_at room ts = and_then (enter (t.Punct p.OpenParen) room ts) (λ deep r. ended (read deep) p.CloseParen r)
 
--- an expression or none, and the token that ends it
+-- an expression or none, and the terminal that ends it
 unfoldable pub optional_ended : ℕ → Bool → Punct → Reader (Option Tree)
 optional_ended room ins c ts =
     if sees (t.Punct c) ts then Ok (None, next ts) else and_then (read room ins 1 ts) (λ e r. and_then (expect (t.Punct c) r) (λ _ r. Ok (Some e, r)))
@@ -152,7 +152,7 @@ unfoldable pub read_statement : ℕ → Within
 read_statement zero loops ts = statement_at zero nothing_within loops (peek ts) ts
 read_statement (suc n) loops ts = statement_at (suc n) (read_statement n) loops (peek ts) ts
 
--- ---- the whole of the tokens
+-- ---- the whole of the terminals
 
 abbrev pub Answer : Type 0
 Answer = Result Items (Fault × List Terminal)

@@ -19,7 +19,7 @@ Fails outcome s.Memory new = Unit {0}
 Fails outcome s.Unexpected new = outcome ≡ Err (unexpected, new)
 Fails outcome s.NestedTooDeep new = outcome ≡ Err (too_deep, new)
 
--- the outcome, and the tokens from which to go on, which after a refusal begin with the offending one
+-- the outcome, and the terminals from which to go on, which after a refusal begin with the offending one
 abbrev pub Reads : {X A : Type 0} → (X → A) → Reading A → Result X Stop → List Terminal → Type 0
 Reads view outcome (Ok x) new = outcome ≡ Ok (view x, new)
 Reads view outcome (Err f) new = Fails outcome f new
@@ -37,7 +37,7 @@ prop_tree x = (x.key, expr_tree x.value)
 abbrev pub assigned : ℕ → Below → Bool → Tree → Reader Tree
 assigned room below ins x ts = and_then (open_at room ts) (λ _ r. and_then (below ins 1 r) (λ y r. Ok (assign (assign_of (peek ts)) x y, r)))
 
--- the two expressions of a choice, from its question mark on
+-- the two expressions of a choice, from its question symbol on
 abbrev pub choices : ℕ → Below → Bool → Reader (Tree × Tree)
 choices room below ins ts =
     and_then (open_at room ts) (λ _ r. and_then (below ins 1 r) (λ y r. and_then (expect (t.Punct p.Colon) r) (λ _ r. and_then (below ins 1 r) (λ z r. Ok ((y, z), r)))))

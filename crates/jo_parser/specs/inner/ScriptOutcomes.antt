@@ -39,7 +39,7 @@ FailsAll outcome s.Memory new = Unit {0}
 FailsAll outcome s.Unexpected new = outcome ≡ Err (unexpected, new)
 FailsAll outcome s.NestedTooDeep new = outcome ≡ Err (too_deep, new)
 
--- the outcome of reading all tokens, and those that begin with the offending one after a refusal
+-- the outcome of reading all terminals, and those that begin with the offending one after a refusal
 abbrev pub ReadsAll : {X : Type 0} → (X → Items) → Answer → Result X Stop → List Terminal → Type 0
 ReadsAll view outcome (Ok x) new = outcome ≡ Ok (view x)
 ReadsAll view outcome (Err f) new = FailsAll outcome f new

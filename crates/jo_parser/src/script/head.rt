@@ -20,7 +20,7 @@ impl<'a> Parser<'a> {
         self.ended(deep, Punct::CloseParen)
     }
 
-    /// An expression or none, and the token that ends it.
+    /// An expression or none, and the terminal that ends it.
     #[tactic(auto, using(crate::proofs::ScriptRules::script_reading), unfolding(jo_grammar::specs::inner::ReadStatements::optional_ended))]
     pub(crate) fn optional(
         &mut self,

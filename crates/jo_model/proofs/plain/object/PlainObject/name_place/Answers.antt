@@ -4,7 +4,7 @@ use Rattle.std.proofs.lemmas.Iterator.{YieldsList-from_slice}
 use Rattle.std.proofs.lemmas.Iterator.Search.{position_from_yields_List}
 use Rattle.jo_value.specs.Values.{is_same_name}
 use Rattle.jo_model.proofs.Places.{place_or_length}
-use Rattle.jo_model.proofs.plain.object.PlainObject.place.Goals as goal
+use Rattle.jo_model.proofs.plain.object.PlainObject.name_place.Goals as goal
 
 pub returns-clause-place : goal.returns-clause-place
 returns-clause-place c =

@@ -1,4 +1,4 @@
--- Marks that are good for a table: their numbers and texts are, and there are not too many; so are the parts of such a list.
+-- Symbols that are good for a table: their numbers and texts are, and there are not too many; so are the parts of such a list.
 use Rattle.std.proofs.Common.{◌≤◌, ◌<◌, List, [], ◌∷◌, ◌++◌, length, arith, length-append}
 use Rattle.jo_value.specs.declared.limits.TheConstants.{MOST_INPUT}
 use Rattle.jo_value.specs.Texts.{Table, id_in}
@@ -10,7 +10,7 @@ use Rattle.jo_tree.specs.declared.word.PropKey.TheVariants as prop_key
 use Rattle.jo_grammar.specs.declared.terminal.Terminal.{Terminal}
 use Rattle.jo_grammar.specs.declared.terminal.Terminal.TheVariants as t
 use Rattle.jo_grammar.specs.Operators.{name_token, key_token}
-use Rattle.jo_grammar.specs.Expressions.{Mark}
+use Rattle.jo_grammar.specs.Expressions.{Symbol}
 use Rattle.jo_grammar.specs.Refusals.{terms}
 use Rattle.jo_grammar.specs.Sound.{IsInRange, IsInTable, IsNamed, IsKeyed}
 
@@ -30,7 +30,7 @@ module _ (texts : Table) where
   AreGood (c ∷ cs) = IsGood c × AreGood cs
 
   -- the terminals are good, and not too many
-  pub record AreFine (ms : List Mark) : Type 0 where
+  pub record AreFine (ms : List Symbol) : Type 0 where
     pub good : AreGood (terms ms)
     pub few : length ms ≤ MOST_INPUT
 
@@ -48,22 +48,22 @@ module _ (texts : Table) where
 
   -- ---- parts
 
-  good-front : (xs ys : List Mark) → AreGood (terms (xs ++ ys)) → AreGood (terms xs)
+  good-front : (xs ys : List Symbol) → AreGood (terms (xs ++ ys)) → AreGood (terms xs)
   good-front [] ys h = tt
   good-front (x ∷ xs) ys h = (h.0, good-front xs ys h.1)
 
-  good-back : (xs ys : List Mark) → AreGood (terms (xs ++ ys)) → AreGood (terms ys)
+  good-back : (xs ys : List Symbol) → AreGood (terms (xs ++ ys)) → AreGood (terms ys)
   good-back [] ys h = h
   good-back (x ∷ xs) ys h = good-back xs ys h.1
 
-  pub front : (xs ys : List Mark) → AreFine (xs ++ ys) → AreFine xs
+  pub front : (xs ys : List Symbol) → AreFine (xs ++ ys) → AreFine xs
   front xs ys h = record { good = good-front xs ys h.good; few = omega (arith, h.few, length-append xs ys) }
 
-  pub back : (xs ys : List Mark) → AreFine (xs ++ ys) → AreFine ys
+  pub back : (xs ys : List Symbol) → AreFine (xs ++ ys) → AreFine ys
   back xs ys h = record { good = good-back xs ys h.good; few = omega (arith, h.few, length-append xs ys) }
 
-  pub at_head : (m : Mark) (ms : List Mark) → AreFine (m ∷ ms) → IsGood m.0
+  pub at_head : (m : Symbol) (ms : List Symbol) → AreFine (m ∷ ms) → IsGood m.0
   at_head m ms h = h.good.0
 
-  pub after : (m : Mark) (ms : List Mark) → AreFine (m ∷ ms) → AreFine ms
+  pub after : (m : Symbol) (ms : List Symbol) → AreFine (m ∷ ms) → AreFine ms
   after m ms h = record { good = h.good.1; few = omega (arith, h.few) }
