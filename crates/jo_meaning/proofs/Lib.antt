@@ -6,3 +6,15 @@ pub mod WorkedRuns
 pub mod Alone
 pub mod Agree
 pub mod Agrees
+pub mod LineFeeds
+pub mod SoundValues
+pub mod Asking
+pub mod AskingStatements
+pub mod AskingScripts
+pub mod SoundCalls
+pub mod HeldProperties
+pub mod AskingAlone
+pub mod WorkedAsking
+pub mod Headed
+pub mod OneLine
+pub mod Lines
