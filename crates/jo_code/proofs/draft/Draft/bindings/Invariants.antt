@@ -1,0 +1,13 @@
+use Rattle.std.proofs.Common.{◌≡◌, ◌≤◌, length, drop}
+use Rattle.jo_tree.specs.ScriptViews.{bindings_list}
+use Rattle.jo_code.specs.inner.StatementCode.{binds_code}
+use Rattle.jo_code.proofs.draft.Draft.bindings.Given as goal
+
+abbrev pub invariant-loop-at : goal.invariant-loop-at
+invariant-loop-at l = record {
+  within : l.at ≤ length l.bindings;
+  done : l.self ≡ binds_code l.scope (bindings_list (drop l.at l.bindings)) l.initial.self;
+}
+
+abbrev pub decreases-loop-at : goal.decreases-loop-at
+decreases-loop-at l = l.at

@@ -1,0 +1,4 @@
+pub mod Machine
+pub mod Needs
+pub mod Behaves
+pub mod inner
