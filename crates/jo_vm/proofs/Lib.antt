@@ -1,0 +1,9 @@
+pub mod Reversed
+pub mod Held
+pub mod WordIds
+pub mod Adding
+pub mod Printing
+pub mod Operands
+pub mod Steps
+pub mod Truths
+pub mod Stages
