@@ -1,5 +1,4 @@
 pub mod Outputs
 pub mod OneScript
 pub mod Runnable
-pub mod SmallForms
 pub mod Worked

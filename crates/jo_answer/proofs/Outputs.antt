@@ -1,22 +1,20 @@
 -- The output of a script that ran alone.
-use Rattle.std.proofs.Common.{◌≡◌, ℕ, List, [], ◌∷◌, ◌++◌, refl, sym, ap, subst, ◌∙◌}
+use Rattle.std.proofs.Common.{◌≡◌, ℕ, List, [], ◌∷◌, ◌++◌, refl, sym, ap, ◌∙◌}
 use Rattle.std.proofs.lemmas.List.{append-nil}
 use Rattle.jo_value.specs.Texts.{Table}
 use Rattle.jo_tree.specs.Trees.{Items}
 use Rattle.jo_model.specs.declared.call.Outcome.{Outcome}
-use Rattle.jo_model.specs.declared.call.Outcome.TheVariants.{Done}
 use Rattle.jo_model.specs.Heaps.{Heap}
 use Rattle.jo_model.specs.History.{History, heap_after}
 use Rattle.jo_model.specs.Rendered.{outcome_bytes, run_bytes, heap_bytes}
 use Rattle.jo_meaning.specs.Runs.{Ended}
 use Rattle.jo_meaning.specs.Histories.{IsHistoryOf, run_in, played_alone}
 use Rattle.jo_meaning.specs.Output.{stand_bytes}
-use Rattle.jo_walk.specs.Alone.{IsRunAlone}
-use Rattle.jo_value.specs.declared.limits.TheConstants.{DEFAULT_TURNS}
+use Rattle.jo_alone.specs.Alone.{IsRunAlone}
 use Rattle.jo_answer.specs.Answers.{IsOutputOf}
 
 -- where the one script of a history stands
-stand_alone : (script : Items) (texts : Table) (turns : ℕ) (w : History) (o : Outcome) → IsHistoryOf (script ∷ []) texts turns (o ∷ []) w
+pub stand_alone : (script : Items) (texts : Table) (turns : ℕ) (w : History) (o : Outcome) → IsHistoryOf (script ∷ []) texts turns (o ∷ []) w
     → (run_in w 1 script texts turns).stand ≡ Ended o
 stand_alone script texts turns w o of_script =
     let run = of_script.each 0 script refl in
@@ -24,22 +22,21 @@ stand_alone script texts turns w o of_script =
     run.2.ended ∙ ap Ended (sym same)
 
 -- its lines and its outcome as they are written, and then the objects
-pub output_alone : (script : Items) (texts : Table) (heap : Heap) (lines : List ℕ) (o : Outcome) (start first text : List ℕ)
-    → IsRunAlone script texts DEFAULT_TURNS heap lines o → o ≡ Done
-    → start ≡ [] → first ≡ start ++ run_bytes 1 lines (outcome_bytes o) → text ≡ first ++ heap_bytes texts heap → IsOutputOf script texts text
-output_alone script texts heap lines o start first text run is empty ran all =
-    let w = (played_alone script texts DEFAULT_TURNS).history in
-    let made = run_in w 1 script texts DEFAULT_TURNS in
+pub output_alone : (script : Items) (texts : Table) (turns : ℕ) (heap : Heap) (lines : List ℕ) (o : Outcome) (start first text : List ℕ)
+    → IsRunAlone script texts turns heap lines o
+    → start ≡ [] → first ≡ start ++ run_bytes 1 lines (outcome_bytes o) → text ≡ first ++ heap_bytes texts heap → IsOutputOf script texts turns o text
+output_alone script texts turns heap lines o start first text run empty ran all =
+    let w = (played_alone script texts turns).history in
+    let made = run_in w 1 script texts turns in
     let objects = heap_bytes texts (heap_after 2 w) in
-    let P : Outcome → Type 0 = λ x. IsHistoryOf (script ∷ []) texts DEFAULT_TURNS (x ∷ []) w in
     record {
-      of_script = subst P is run.of_script;
+      of_script = run.of_script;
       alone = run.alone;
       written_is =
           all
           ∙ ap (λ t. t ++ heap_bytes texts heap) (ran ∙ ap (λ t. t ++ run_bytes 1 lines (outcome_bytes o)) empty)
           ∙ ap (λ h. run_bytes 1 lines (outcome_bytes o) ++ heap_bytes texts h) run.heap_is
           ∙ ap (λ l. run_bytes 1 l (outcome_bytes o) ++ objects) run.lines_are
-          ∙ ap (λ s. run_bytes 1 made.lines (stand_bytes s) ++ objects) (sym (stand_alone script texts DEFAULT_TURNS w o run.of_script))
+          ∙ ap (λ s. run_bytes 1 made.lines (stand_bytes s) ++ objects) (sym (stand_alone script texts turns w o run.of_script))
           ∙ ap (λ t. t ++ objects) (sym (append-nil (run_bytes 1 made.lines (stand_bytes made.stand))));
     }

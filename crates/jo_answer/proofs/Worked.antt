@@ -1,6 +1,6 @@
--- Worked cases: the form and the output of scripts, and the lines of refusals, by computation.
+-- Worked cases: the output of scripts, and the lines of refusals, by computation.
 use Rattle.std.proofs.Common.{refl}
-use Rattle.std.specs.Prelude.{◌≡◌, ℕ, pos, false, [], ◌∷◌, codes, Some, None}
+use Rattle.std.specs.Prelude.{◌≡◌, ℕ, pos, false, [], ◌∷◌, codes}
 use Rattle.std.specs.Fmt.{digits}
 use Rattle.jo_value.specs.Texts.{Table}
 use Rattle.jo_value.specs.declared.value.NameId.{NameId}
@@ -9,8 +9,8 @@ use Rattle.jo_value.specs.declared.value.Value.TheVariants.{Int}
 use Rattle.jo_lex.specs.declared.refusal.RefusalKind.TheVariants.{NestedTooDeep}
 use Rattle.jo_tree.specs.declared.keyword.Keyword.TheVariants as keyword
 use Rattle.jo_tree.specs.declared.operator.AssignOperator.TheVariants.{Set}
-use Rattle.jo_tree.specs.declared.word.Name.TheVariants.{Ident, Keyword}
-use Rattle.jo_tree.specs.Trees.{Tree, number, constant, group, member, assign, no_accesses, field, Statement, empty, print, evaluate, Items, no_items, perform}
+use Rattle.jo_tree.specs.declared.word.Name.TheVariants.{Ident}
+use Rattle.jo_tree.specs.Trees.{Tree, number, constant, member, assign, no_accesses, field, Statement, print, evaluate, Items, no_items, perform}
 use Rattle.jo_model.specs.declared.call.Call.TheVariants.{Put}
 use Rattle.jo_model.specs.declared.call.Outcome.TheVariants as outcome
 use Rattle.jo_model.specs.declared.call.Reply.TheVariants.{Done}
@@ -18,8 +18,6 @@ use Rattle.jo_model.specs.Heaps.{shared}
 use Rattle.jo_model.specs.History.{Entry}
 use Rattle.jo_meaning.specs.Histories.{played_alone}
 use Rattle.jo_meaning.specs.Output.{output}
-use Rattle.jo_form.specs.declared.form.Step.TheVariants as step
-use Rattle.jo_form.specs.Forms.{form_of}
 use Rattle.jo_answer.specs.Lines.{refusal_line}
 
 -- ---- words of the cases
@@ -44,23 +42,6 @@ alone statement = perform statement no_items
 -- `shared.x = 1; shared.y = 2; print(shared.x, shared.z);`
 abbrev first : Items
 first = perform (put 1 1) (perform (put 2 2) (alone (print (read 1 ∷ read 4 ∷ []))))
-
--- ---- forms
-
-pub the_first_script_has_three_steps : form_of texts first ≡ Some (step.Put (named 1) (pos 1) ∷ step.Put (named 2) (pos 2) ∷ step.Print (named 1 ∷ named 4 ∷ []) ∷ [])
-the_first_script_has_three_steps = refl
-
-pub a_reserved_word_may_be_a_name : form_of texts (alone (print (member (constant keyword.Shared) (field (Keyword keyword.In) no_accesses) ∷ []))) ≡ Some (step.Print (named 5 ∷ []) ∷ [])
-a_reserved_word_may_be_a_name = refl
-
-pub brackets_are_no_form : form_of texts (alone (evaluate (assign Set (read 1) (group (number (pos 1)))))) ≡ None
-brackets_are_no_form = refl
-
-pub a_print_of_nothing_is_no_form : form_of texts (alone (print [])) ≡ None
-a_print_of_nothing_is_no_form = refl
-
-pub an_empty_statement_is_no_form : form_of texts (alone empty) ≡ None
-an_empty_statement_is_no_form = refl
 
 -- ---- outputs
 

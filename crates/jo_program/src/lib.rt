@@ -5,6 +5,7 @@
 mod process;
 mod status;
 mod top;
+mod words;
 
 pub use process::start;
 pub use status::Status;

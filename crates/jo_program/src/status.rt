@@ -7,7 +7,7 @@ use std::process::ExitCode;
 /// How a run ended.
 #[derive(Clone, Copy, Debug, PartialEq)]
 pub enum Status {
-    /// All is well: the output was written.
+    /// The script is done: the output was written.
     Done,
     /// The words are no command line of the program: the usage line was written.
     Usage,
@@ -19,6 +19,8 @@ pub enum Status {
     ReadFault,
     /// A write failed: the beginning of the output was written, and not all of it.
     WriteFault,
+    /// The script ended by a fault: the output was written.
+    EndedWithFaults,
     /// No memory was left: nothing was written.
     Memory,
 }
@@ -37,6 +39,7 @@ impl Status {
             Status::TooLarge => 3,
             Status::ReadFault => 4,
             Status::WriteFault => 5,
+            Status::EndedWithFaults => 6,
             Status::Memory => 7,
         })
     }

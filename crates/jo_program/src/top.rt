@@ -1,13 +1,15 @@
 // The top call.
-ghost use Rattle.std.specs.Prelude.{◌≡◌, ◌≢◌, ◌⊎◌, ◌+◌, true, false, IfSome, IfOk, IsErrOf};
+ghost use Rattle.std.specs.Prelude.{◌≡◌, ◌≢◌, ◌⊎◌, ◌+◌, ℕ, None, Some, IfSome, IfOk, IsErrOf};
 ghost use Rattle.std.specs.Io.KnownBytes.{Appends};
 ghost use Rattle.jo_value.specs.declared.limits.TheConstants.{MOST_INPUT};
 ghost use Rattle.jo_io.specs.Causes.{Counts};
 ghost use Rattle.jo_io.specs.Bytes.{ConsumesAtMost, AppendsPart};
 ghost use Rattle.jo_answer.specs.declared.due.Verdict.TheVariants as verdict;
-ghost use Rattle.jo_program.specs.Run.{is_run, status_of, IsAnswer, IsJudged, IsDueOutput, IsUsage, Writes, WritesPart};
+ghost use Rattle.jo_program.specs.Words.{turns_of};
+ghost use Rattle.jo_program.specs.Run.{status_of, IsAnswer, IsAnswerTo, IsJudged, IsDueOutput, IsUsage, Writes, WritesPart};
 
 use crate::Status;
+use crate::words::turns_of;
 use jo_answer::{Answer, Verdict, answer_to};
 use jo_io::{Failed, ReadError, Sink, Source, read_all, write_all};
 use jo_value::MOST_INPUT;
@@ -31,20 +33,24 @@ pub fn run<R: Threads + Wait + Sync, S: Source, K: Sink>(
 ) -> Status
     // The printed reads and the final objects are those of one legal history of the set that was read.
     ensures done { result ≡ Status.Done
-        → Writes (IsAnswer verdict.Done (S.left source.old) (S.left source.new))
+        → Writes (IsAnswerTo words.now verdict.Done (S.left source.old) (S.left source.new))
+        (K.held sink.old) (K.held sink.new) }
+    ensures faulty { result ≡ Status.EndedWithFaults
+        → Writes (IsAnswerTo words.now verdict.EndedWithFaults (S.left source.old) (S.left source.new))
         (K.held sink.old) (K.held sink.new) }
     ensures refused { result ≡ Status.Refused
-        → Writes (IsAnswer verdict.Refused (S.left source.old) (S.left source.new))
+        → Writes (IsAnswerTo words.now verdict.Refused (S.left source.old) (S.left source.new))
         (K.held sink.old) (K.held sink.new) }
     ensures too_large { result ≡ Status.TooLarge
-        → Writes (IsAnswer verdict.TooLarge (S.left source.old) (S.left source.new))
+        → Writes (IsAnswerTo words.now verdict.TooLarge (S.left source.old) (S.left source.new))
         (K.held sink.old) (K.held sink.new) }
     ensures usage { result ≡ Status.Usage
         → Writes (IsUsage words.now) (K.held sink.old) (K.held sink.new) }
 
     // The words and the whole input decide which of them it is.
-    ensures judged { is_run words.now ≡ true → IfSome (S.left source.old) (IsJudged result) }
-    ensures other_words { is_run words.now ≡ false
+    ensures judged { (turns : ℕ) → turns_of words.now ≡ Some turns
+        → IfSome (S.left source.old) (IsJudged turns result) }
+    ensures other_words { turns_of words.now ≡ None
         → (result ≡ Status.Usage) ⊎ (result ≡ Status.WriteFault) }
 
     // A fault is answered where it comes, and nothing else counts one.
@@ -56,38 +62,29 @@ pub fn run<R: Threads + Wait + Sync, S: Source, K: Sink>(
         → WritesPart (IsDueOutput words.now (S.left source.old) (S.left source.new))
         (K.held sink.old) (K.held sink.new) }
     ensures unwritten { (result ≡ Status.ReadFault) ⊎ (result ≡ Status.Memory)
-        → (is_run words.now ≡ true) × (sink.new ≡ sink.old) }
+        → (turns_of words.now ≢ None) × (sink.new ≡ sink.old) }
 
-    ensures unread { is_run words.now ≡ false → source.new ≡ source.old }
+    ensures unread { turns_of words.now ≡ None → source.new ≡ source.old }
     ensures bound { ConsumesAtMost (S.left source.old) (S.left source.new) (MOST_INPUT + 1) }
     ensures early { result ≡ Status.ReadFault
         → ConsumesAtMost (S.left source.old) (S.left source.new) MOST_INPUT }
 {
-    if !is_run(words) {
+    let Some(turns) = turns_of(words) else {
         return finish(sink, USAGE_LINE, Status::Usage);
-    }
-    match answer_of(alloc, source) {
+    };
+    match answer_of(alloc, turns, source) {
         Ok(answer) => finish(sink, &answer.output, status_of(answer.verdict)),
         Err(ReadError::Failed) => Status::ReadFault,
         Err(ReadError::Memory) => Status::Memory,
     }
 }
 
-fn is_run(words: &[String]) -> bool
-    ensures { result ≡ is_run words.now }
-{
-    match words {
-        [word] => word.as_str() == "run",
-        _ => false,
-    }
-}
-
 // Reads the input: what is said of it, and the output that is due for it.
-fn answer_of<S: Source>(alloc: Global, source: &mut S) -> Result<Answer, ReadError>
-    ensures due { IfOk result (λ answer. IsAnswer answer.verdict
+fn answer_of<S: Source>(alloc: Global, turns: u32, source: &mut S) -> Result<Answer, ReadError>
+    ensures due { IfOk result (λ answer. IsAnswer turns answer.verdict
         (S.left source.old) (S.left source.new) answer.output.items) }
     ensures judged { IfOk result (λ answer.
-        IfSome (S.left source.old) (IsJudged (status_of answer.verdict))) }
+        IfSome (S.left source.old) (IsJudged turns (status_of answer.verdict))) }
     ensures bound { ConsumesAtMost (S.left source.old) (S.left source.new) (MOST_INPUT + 1) }
     ensures failed { IsErrOf result ReadError.Failed
         → ConsumesAtMost (S.left source.old) (S.left source.new) MOST_INPUT }
@@ -95,7 +92,7 @@ fn answer_of<S: Source>(alloc: Global, source: &mut S) -> Result<Answer, ReadErr
         (S.faults source.old) (S.faults source.new) }
 {
     let bytes = read_all(alloc, MOST_INPUT + 1, source)?;
-    let answer = answer_to(alloc, &bytes)?;
+    let answer = answer_to(alloc, &bytes, turns)?;
     Ok(answer)
 }
 
@@ -104,6 +101,7 @@ fn status_of(verdict: Verdict) -> Status
 {
     match verdict {
         Verdict::Done => Status::Done,
+        Verdict::EndedWithFaults => Status::EndedWithFaults,
         Verdict::Refused => Status::Refused,
         Verdict::TooLarge => Status::TooLarge,
     }

@@ -4,8 +4,14 @@
 #[cfg(test)]
 mod ends;
 #[cfg(test)]
+mod limits;
+#[cfg(test)]
+mod lines;
+#[cfg(test)]
 mod runs;
 #[cfg(test)]
-mod walking;
+mod scripts;
 #[cfg(test)]
 mod whole_texts;
+#[cfg(test)]
+mod words;

@@ -1,0 +1,6 @@
+//! Runs one script over the slow heap.
+#![tactic(auto)]
+
+mod alone;
+
+pub use alone::{Ran, run_alone};

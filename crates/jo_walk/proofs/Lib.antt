@@ -1,4 +1,0 @@
-pub mod Steps
-pub mod Ends
-pub mod FewNames
-pub mod FewLines
