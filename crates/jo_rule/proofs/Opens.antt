@@ -1,0 +1,216 @@
+-- The words of a new heap, and the view of its first pass, satisfy the rule.
+use Rattle.std.proofs.Common.{◌≡◌, ◌≢◌, ◌+◌, ◌-◌, ◌*◌, ◌%◌, ◌<◌, ◌≤◌, ℕ, zero, suc, Bool, true, false, cond, eqb, ltb, ◌&&◌, List, [], ◌∷◌, refl, sym, ap, ◌∙◌, subst, ⊎_elim, arith, length, get_or, Option, Some, None}
+use Rattle.std.specs.Prelude.{nat_lt, slice_index, replicate, if◌then◌else◌}
+use Rattle.std.proofs.lemmas.Bool.{cases_eq, cases_lt, cond_both, both_ways, eq-eqb, ne_eqb, lt-ltb, le-ltb, and_from}
+use Rattle.std.proofs.lemmas.List.{get_or-replicate, get_or_past, length-replicate}
+use Rattle.jo_value.specs.declared.capacities.TheConstants.{MOST_PASSES, MOST_STRUCTURES, SHARED_ADDRESS, SHARED_STORAGE}
+use Rattle.jo_value.specs.declared.limits.TheConstants.{MOST_STORAGE, MOST_OBJECTS}
+use Rattle.jo_value.specs.declared.value.ObjId.{ObjId}
+use Rattle.jo_value.specs.declared.words.cell.Cell.{Cell}
+use Rattle.jo_value.specs.Values.{is_same_object}
+use Rattle.jo_value.specs.Words.{cell_bits, node_bits}
+use Rattle.jo_model.specs.Objects.{Object, empty_object}
+use Rattle.jo_model.specs.Heaps.{heap_at_start, objects_of, object_of, shared}
+use Rattle.jo_model.proofs.Growing.{log-nil}
+use Rattle.jo_model.proofs.Valid.{valid_at_start}
+use Rattle.jo_rule.specs.Names.{WordName, first_child, transition_set, write_set, cell, inline, word_at, is_word}
+use Rattle.jo_rule.specs.Areas.{words_of, nodes, cells, stored, set_object}
+use Rattle.jo_rule.specs.Views.{Lock}
+use Rattle.jo_rule.specs.Dictionaries.{block_size, dictionary_header, HasProperties}
+use Rattle.jo_rule.specs.Histories.{OwnArePlaced, KeptArePlaced, HasSeen, home_at, HasHome, CountsPasses, OwnEntries, KeptEntries, ArePlacedIn, HasItsEntries}
+use Rattle.jo_rule.specs.Contents.{Role, unnamed, fixed, dictionary, Now, unborn_now, dictionary_now, root_of, word_of_cell, is_born, AreCells, Stands, HasWords}
+use Rattle.jo_rule.specs.Owned.{address_of, structure_of, root_node, StorageIsOwn, ObjectsAreOwn, StructuresAreOwn}
+use Rattle.jo_rule.specs.Locks.{HoldsItsLock}
+use Rattle.jo_rule.specs.Rule.{Rule}
+use Rattle.jo_rule.specs.Steps.{opening_view}
+use Rattle.jo_rule.specs.Opening.{shared_cell, opening_word, opening_words, AreOpening}
+use Rattle.jo_rule.proofs.Names.{word_back, word_below}
+use Rattle.jo_rule.proofs.Lists.{live_one, no_each, no_item}
+use Rattle.jo_rule.proofs.Events.{no_words}
+use Rattle.jo_rule.proofs.Naming.{named_roles, named_first, named_words, named_else}
+use Rattle.jo_rule.proofs.Passes.{nothing_placed}
+use Rattle.jo_rule.proofs.Sets.{cases_object, object_here, object_else, other_object}
+
+-- ---- the list and the names
+
+-- a list of the opening words has them by name
+pub opening_by_name : (P : ℕ) (ws : List ℕ) → AreOpening P ws → words_of P ws ≡ opening_words P
+opening_by_name P ws h =
+    let by : (n : WordName) (b : Bool) → is_word P n ≡ b → cond b (slice_index ws (word_at P n)) 0 ≡ cond b (opening_word n) 0
+    = λ n b. elim b as (λ c. is_word P n ≡ c → cond c (slice_index ws (word_at P n)) 0 ≡ cond c (opening_word n) 0) [ true ↦ λ e. h.each (word_at P n) (word_below P n e) ∙ ap opening_word (word_back P n e) | false ↦ λ e. refl ] in
+    λ i n. by n (is_word P n) refl i
+
+-- ---- the heap at the start
+
+objects_later : (P p : ℕ) → 0 < p → objects_of (heap_at_start P) p ≡ []
+objects_later P zero lt = absurd (omega arith)
+objects_later P (suc p) lt = ⊎_elim
+    (λ l. get_or-replicate (P - 1) p [] [] l)
+    (λ g. get_or_past (replicate (P - 1) []) p [] (let e = length-replicate {A = List Object} (P - 1) [] in omega arith)) (cases_lt p (P - 1))
+
+one_empty : (i : ℕ) → get_or (empty_object ∷ []) i empty_object ≡ empty_object
+one_empty zero = refl
+one_empty (suc i) = refl
+
+all_empty : (P : ℕ) (o : ObjId) → object_of (heap_at_start P) o ≡ empty_object
+all_empty P o = ⊎_elim
+    (λ (e : o.pass ≡ 0). ap (λ (p : ℕ). get_or (objects_of (heap_at_start P) p) o.serial empty_object) e ∙ one_empty o.serial)
+    (λ (n : o.pass ≢ 0). ap (λ (l : List Object). get_or l o.serial empty_object) (objects_later P o.pass (omega arith))) (cases_eq o.pass 0)
+
+-- ---- its words
+
+storage_else : (P a : ℕ) → a ≢ SHARED_ADDRESS → stored (opening_words P) a ≡ 0
+storage_else P a n =
+    let e : eqb a SHARED_ADDRESS ≡ false = ne_eqb a SHARED_ADDRESS n in
+    cond_both (nat_lt a (MOST_STORAGE * P)) (cond (eqb a SHARED_ADDRESS) (dictionary_header 0) 0) 0 (λ x. x ≡ 0) (λ t. rw e refl) (λ f. refl)
+
+storage_first : (P : ℕ) → 0 < P → stored (opening_words P) SHARED_ADDRESS ≡ dictionary_header 0
+storage_first P lt = let e : ltb SHARED_ADDRESS (MOST_STORAGE * P) ≡ true = lt-ltb SHARED_ADDRESS (MOST_STORAGE * P) (omega arith) in rw e refl
+
+abbrev first_cells : ObjId → Option Cell
+first_cells = set_object (λ o. None) shared (Some shared_cell)
+
+abbrev first_roles : ℕ → Role
+first_roles = named_roles (λ a. unnamed) SHARED_ADDRESS 0 shared
+
+abbrev first_now : ObjId → Now
+first_now = set_object (λ o. unborn_now) shared (dictionary_now 0)
+
+first_coded : (P : ℕ) → 0 < P → AreCells (cells (opening_words P)) first_cells
+first_coded P lt o = ⊎_elim
+    (λ (e : o ≡ shared).
+    let there : (ltb 0 P && ltb 0 MOST_OBJECTS) ≡ true = and_from (ltb 0 P) (ltb 0 MOST_OBJECTS) (lt-ltb 0 P lt) (lt-ltb 0 MOST_OBJECTS (omega arith)) in
+    let here : cells (opening_words P) shared ≡ cell_bits shared_cell = rw there refl in
+    ap (cells (opening_words P)) e ∙ (here ∙ sym (ap word_of_cell (ap first_cells e ∙ object_here (λ o. None) shared (Some shared_cell)))))
+    (λ (n : o ≢ shared).
+    let d : is_same_object o shared ≡ false = other_object o shared n in
+    let none_there : cells (opening_words P) o ≡ 0 = cond_both (is_word P (cell o)) (cond (is_same_object o shared) (cell_bits shared_cell) 0) 0 (λ x. x ≡ 0) (λ t. rw d refl) (λ f. refl) in
+    none_there ∙ sym (ap word_of_cell (object_else (λ o. None) shared o (Some shared_cell) n))) (cases_object o shared)
+
+no_properties : (P : ℕ) → HasProperties (λ k. stored (opening_words P) (SHARED_ADDRESS + k)) 0 empty_object
+no_properties P = record {
+  few = omega arith;
+  count = storage_else P (SHARED_ADDRESS + 1) (λ e. omega arith);
+  names = λ j name v e. absurd cc;
+  elements = λ i lt. absurd (omega arith);
+  beyond = λ i le. refl;
+}
+
+first_still : (a word : ℕ) → first_roles a ≡ fixed word → (a ≡ SHARED_ADDRESS) × (word ≡ dictionary_header 0)
+first_still a word e = ⊎_elim
+    (λ (f : a ≡ SHARED_ADDRESS). (f, (let g : fixed (dictionary_header 0) ≡ fixed word = sym (ap first_roles f ∙ named_first (λ a. unnamed) SHARED_ADDRESS 0 shared) ∙ e in let h : dictionary_header 0 ≡ word = cc in sym h)))
+    (λ (n : a ≢ SHARED_ADDRESS). absurd (
+    let away : eqb a SHARED_ADDRESS ≡ false = ne_eqb a SHARED_ADDRESS n in
+    let rest : (if nat_lt SHARED_ADDRESS a && nat_lt a (SHARED_ADDRESS + block_size 0) then dictionary shared else unnamed) ≡ fixed word = (rw away at e) in
+    cond_both (nat_lt SHARED_ADDRESS a && nat_lt a (SHARED_ADDRESS + block_size 0)) (dictionary shared) unnamed (λ x. x ≡ fixed word → ⊥) (λ t g. (let no : dictionary shared ≡ fixed word = g in cc)) (λ t g. (let no : unnamed ≡ fixed word = g in cc)) rest)) (cases_eq a SHARED_ADDRESS)
+
+first_stands : (P : ℕ) (o : ObjId) → Stands (stored (opening_words P)) first_roles o (first_cells o) (first_now o) (object_of (heap_at_start P) o)
+first_stands P o = ⊎_elim
+    (λ (e : o ≡ shared). subst (λ (x : ObjId × Option Cell × Now). Stands (stored (opening_words P)) first_roles x.0 x.1 x.2 (object_of (heap_at_start P) x.0))
+    (λ i. (sym e i, sym (ap first_cells e ∙ object_here (λ o. None) shared (Some shared_cell)) i, sym (ap first_now e ∙ object_here (λ o. unborn_now) shared (dictionary_now 0)) i))
+    record {
+      cell = record { sid = omega arith; address = omega arith; owner = omega arith };
+      structure = refl;
+      owner = refl;
+      kind = record { settled = refl; capacity = omega arith; header = named_first (λ a. unnamed) SHARED_ADDRESS 0 shared; words = λ k lt le. named_words (λ a. unnamed) SHARED_ADDRESS 0 shared k lt le; properties = λ f. subst (HasProperties (λ k. stored (opening_words P) (SHARED_ADDRESS + k)) 0) (sym (all_empty P shared)) (no_properties P) };
+    })
+    (λ (n : o ≢ shared). subst (λ (x : Option Cell × Now). Stands (stored (opening_words P)) first_roles o x.0 x.1 (object_of (heap_at_start P) o))
+    (λ i. (sym (object_else (λ o. None) shared o (Some shared_cell) n) i, sym (object_else (λ o. unborn_now) shared o (dictionary_now 0) n) i)) (refl, all_empty P o)) (cases_object o shared)
+
+first_born : (P : ℕ) (o : ObjId) → is_born (first_cells o) ≡ nat_lt o.serial (length (objects_of (heap_at_start P) o.pass))
+first_born P o = ⊎_elim
+    (λ (e : o ≡ shared). ap is_born (ap first_cells e ∙ object_here (λ o. None) shared (Some shared_cell)) ∙ sym (ap (λ (x : ObjId). nat_lt x.serial (length (objects_of (heap_at_start P) x.pass))) e ∙ lt-ltb 0 1 (omega arith)))
+    (λ (n : o ≢ shared). ap is_born (object_else (λ o. None) shared o (Some shared_cell) n) ∙ sym (⊎_elim
+    (λ (z : o.pass ≡ 0). ap (λ (p : ℕ). nat_lt o.serial (length (objects_of (heap_at_start P) p))) z ∙ le-ltb o.serial 1 (let d : o.serial ≢ 0 = λ f. n (λ i. record { pass = z i; serial = f i }) in omega arith))
+    (λ (d : o.pass ≢ 0). ap (λ (l : List Object). nat_lt o.serial (length l)) (objects_later P o.pass (omega arith)) ∙ le-ltb o.serial 0 (omega arith)) (cases_eq o.pass 0))) (cases_object o shared)
+
+first_inside : (P : ℕ) → 0 < P → (a : ℕ) → first_roles a ≢ unnamed → a < MOST_STORAGE * P
+first_inside P pos a n = ⊎_elim (λ lt. omega arith)
+    (λ ge. absurd (n (named_else (λ a. unnamed) SHARED_ADDRESS 0 shared a (λ j lj e. omega arith)))) (cases_lt a SHARED_STORAGE)
+
+none_of : (b : Bool) → ◌≡◌ {A = ℕ} (cond {A = ℕ} b 0 0) 0
+none_of true = refl
+none_of false = refl
+
+node_of_root : (P p : ℕ) → p < P → nodes (opening_words P) (root_of p) ≡ node_bits root_node
+node_of_root P p lt =
+    let there : ltb (MOST_STRUCTURES * p) (MOST_STRUCTURES * P) ≡ true = lt-ltb (MOST_STRUCTURES * p) (MOST_STRUCTURES * P) (omega arith) in
+    let root : eqb (MOST_STRUCTURES * p % MOST_STRUCTURES) 0 ≡ true = eq-eqb (MOST_STRUCTURES * p % MOST_STRUCTURES) 0 (omega arith) in
+    rw (there, root) refl
+
+node_else : (P p k : ℕ) → 0 < k → k < MOST_STRUCTURES → nodes (opening_words P) (structure_of p k) ≡ 0
+node_else P p k lo hi =
+    let n = MOST_STRUCTURES * p + k in
+    let no_root : eqb (n % MOST_STRUCTURES) 0 ≡ false = ne_eqb (n % MOST_STRUCTURES) 0 (λ e. omega arith) in
+    cond_both (nat_lt n (MOST_STRUCTURES * P)) (cond (eqb (n % MOST_STRUCTURES) 0) (node_bits root_node) 0) 0 (λ x. x ≡ 0) (λ t. rw no_root refl) (λ f. refl)
+
+pub opens : (P : ℕ) → 0 < P → P ≤ MOST_PASSES → Rule P (opening_words P) (opening_view ∷ [])
+opens P pos most =
+    let w = opening_words P in
+    let heap = heap_at_start P in
+    let none_locked : (g : Lock) → opening_view.lock ≡ Some g → ⊥ = λ g e. no_item g None refl e in record {
+      log = [];
+      made = 1;
+      home = λ t. home_at 0 0;
+      cell = first_cells;
+      role = first_roles;
+      now = first_now;
+      placements = record { own = live_one (OwnArePlaced P) opening_view (nothing_placed P [] 0); kept = live_one (KeptArePlaced P) opening_view (no_each (λ k q. ArePlacedIn P [] q.number q.calls)) };
+      histories = record {
+        few = omega arith;
+        authors = λ n e is. absurd cc;
+        lawful = log-nil P;
+        marks = λ n t noted is. absurd cc;
+        seen = live_one (HasSeen []) opening_view ([], refl);
+        whole_at = 0;
+        whole = record { view = opening_view; there = refl; live = refl; all = refl };
+        seated = live_one (HasHome 1 (λ t. home_at 0 0)) opening_view record { own = (refl, omega arith); others = no_each (λ k q. (home_at 0 0 ≡ home_at 0 (k + 1)) × (q.number < 1)) };
+        stands = λ t lt. record { view = opening_view; there = refl; live = refl; number = let e : 0 ≡ t = omega arith in e };
+        counted = live_one (CountsPasses 1) opening_view (λ e. refl);
+        own = live_one (OwnEntries P []) opening_view refl;
+        kept = live_one (KeptEntries P []) opening_view (no_each (λ k q. HasItsEntries P [] [] q.number q.calls));
+      };
+      coded = first_coded P pos;
+      contents = record {
+        stands = first_stands P;
+        born = first_born P;
+        still = λ a word e. let t = first_still a word e in ap (stored w) t.0 ∙ (storage_first P pos ∙ sym t.1);
+        inside = λ a n. first_inside P pos a n;
+        words = λ o. subst HasWords (sym (all_empty P o)) no_words;
+        valid = valid_at_start P;
+      };
+      owned = record {
+        storage = live_one (StorageIsOwn (stored w) first_roles) opening_view record {
+          named = omega arith;
+          used = omega arith;
+          nameless = λ k le lt. named_else (λ a. unnamed) SHARED_ADDRESS 0 shared (address_of 0 k) (λ j lj e. omega arith);
+          known = λ k le lt. storage_else P (address_of 0 k) (λ e. omega arith);
+          zeros = λ k le. refl;
+        };
+        objects = live_one (ObjectsAreOwn heap) opening_view refl;
+      };
+      structures = record {
+        roots = node_of_root P;
+        own = live_one (StructuresAreOwn (nodes w)) opening_view record { root = omega arith; few = omega arith; unborn = λ k le lt. node_else P 0 k (omega arith) lt };
+      };
+      locks = record {
+        holder = λ o. 0;
+        held = live_one (HoldsItsLock (stored w) first_cells first_now heap (λ o. 0)) opening_view (λ g e. absurd (none_locked g e));
+        locked = λ o c e bit. absurd (⊎_elim
+            (λ (f : o ≡ shared). (let both : Some shared_cell ≡ Some c = sym (ap first_cells f ∙ object_here (λ o. None) shared (Some shared_cell)) ∙ e in let one : shared_cell ≡ c = cc in both_ways c.locked (ap (λ (x : Cell). x.locked) (sym one)) bit))
+            (λ (n : o ≢ shared). (let no : None ≡ Some c = sym (object_else (λ o. None) shared o (Some shared_cell) n) ∙ e in cc)) (cases_object o shared));
+      };
+      unborn = record {
+        children = λ s e. none_of (is_word P (first_child s));
+        transitions = λ s e. none_of (is_word P (transition_set s));
+        writes = λ s e. none_of (is_word P (write_set s));
+        offsets = λ o j e. none_of (is_word P (inline o j));
+      };
+      unmade = record {
+        out = λ t le lt. (let there : ltb t P ≡ true = lt-ltb t P lt in rw there refl);
+        structures = λ t k le lt lo hi. node_else P t k lo hi;
+        nameless = λ t k le lt lk. named_else (λ a. unnamed) SHARED_ADDRESS 0 shared (address_of t k) (λ j lj e. omega arith);
+        storage = λ t k le lt lk. storage_else P (address_of t k) (λ e. omega arith);
+        objects = λ t le. ap (λ (l : List Object). length l) (objects_later P t (omega arith));
+      };
+    }

@@ -1,0 +1,60 @@
+-- What is known at the end, when the first pass has taken in each other.
+use Rattle.std.specs.Prelude.{◌≡◌, ℕ, ◌+◌, ◌<◌, ◌==◌, zero, suc, if◌then◌else◌, List, [], ◌∷◌, None, ◌≤◌, false}
+use mathlib.Core.Option.{some}
+use lib.ListN.{get_elem?}
+use Rattle.jo_value.specs.declared.value.ObjId.{ObjId}
+use Rattle.jo_value.specs.declared.words.cell.Cell.{Cell}
+use Rattle.jo_value.specs.Words.{IsCell, cell_bits}
+use Rattle.jo_model.specs.Heaps.{object_of, IsBorn}
+use Rattle.jo_model.specs.Logs.{after}
+use Rattle.jo_model.specs.Placed.{PlacedCall}
+use Rattle.jo_model.specs.Joined.{ArePlaced}
+use Rattle.jo_rule.specs.Names.{cell}
+use Rattle.jo_rule.specs.Areas.{Words, stored}
+use Rattle.jo_rule.specs.Views.{View, Kept}
+use Rattle.jo_value.specs.declared.limits.TheConstants.{MOST_INDEX}
+use Rattle.jo_model.specs.Objects.{Object}
+use Rattle.jo_rule.specs.Dictionaries.{dictionary_header, HasProperties}
+use Rattle.jo_rule.specs.Contents.{HasWords}
+
+-- the first pass keeps each other one, and holds no lock
+pub record HasJoinedAll (v : View) : Type 0 where
+  pub first : v.number ≡ 0
+  pub others : (t : ℕ) → 0 < t → t < v.made → (k : ℕ) × (q : Kept) × (get_elem? v.kept k ≡ some q) × (q.number ≡ t)
+  pub unlocked : v.lock ≡ None
+
+-- the calls of the pass t that are kept; none where none of t are
+abbrev pub kept_calls : List Kept → ℕ → List PlacedCall
+kept_calls [] t = []
+kept_calls (q ∷ kept) t = if q.number == t then q.calls else kept_calls kept t
+
+-- the calls of the pass t, by the view that has taken in each other
+abbrev pub calls_of_pass : View → ℕ → List PlacedCall
+calls_of_pass v t = if v.number == t then v.past.calls else kept_calls v.kept t
+
+-- what a function gives for the numbers below n, from one on
+abbrev pub listed : {A : Type 0} → ℕ → (ℕ → A) → List A
+listed zero f = []
+listed (suc n) f = f 0 ∷ listed n (λ k. f (suc k))
+
+-- the calls of each pass
+abbrev pub all_calls : ℕ → View → List (List PlacedCall)
+all_calls passes v = listed passes (calls_of_pass v)
+
+-- an unlocked dictionary stands in the words, with these properties
+pub record IsWritten (w : Words) (o : ObjId) (z : Object) : Type 0 where
+  pub found : Cell
+  pub room : ℕ
+  pub is_cell : IsCell found
+  pub word : w (cell o) ≡ cell_bits found
+  pub unlocked : found.locked ≡ false
+  pub capacity : room ≤ MOST_INDEX + 1
+  pub header : stored w found.address ≡ dictionary_header room
+  pub properties : HasProperties (λ k. stored w (found.address + k)) room z
+  pub words : HasWords z
+
+-- the calls of each pass are placed in the log that was seen, so that they make a legal history, and each object stands in the words
+pub record HasEnded (passes : ℕ) (w : Words) (v : View) : Type 0 where
+  pub placed : ArePlaced passes v.past.seen (all_calls passes v)
+  pub objects : (o : ObjId) → IsBorn (after passes v.past.seen) o → IsWritten w o (object_of (after passes v.past.seen) o)
+  pub unborn : (o : ObjId) → (IsBorn (after passes v.past.seen) o → ⊥) → w (cell o) ≡ 0

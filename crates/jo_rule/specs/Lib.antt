@@ -1,0 +1,16 @@
+pub mod Names
+pub mod Areas
+pub mod Marks
+pub mod Views
+pub mod Tidy
+pub mod Lists
+pub mod Histories
+pub mod Dictionaries
+pub mod Contents
+pub mod Owned
+pub mod Locks
+pub mod Events
+pub mod Steps
+pub mod Opening
+pub mod Ending
+pub mod Rule

@@ -1,0 +1,72 @@
+-- What belongs to a pass alone: storage that no cell has named, objects and structures that are not born.
+use Rattle.std.specs.Prelude.{◌≡◌, ℕ, ◌+◌, ◌*◌, ◌<◌, ◌≤◌, List, length, Option, None}
+use Rattle.jo_value.specs.declared.capacities.TheConstants.{MOST_STRUCTURES, OUT, VALID}
+use Rattle.jo_value.specs.declared.limits.TheConstants.{MOST_STORAGE}
+use Rattle.jo_value.specs.declared.value.ObjId.{ObjId}
+use Rattle.jo_value.specs.declared.value.Sid.{Sid}
+use Rattle.jo_value.specs.declared.words.cell.Cell.{Cell}
+use Rattle.jo_value.specs.declared.words.node.Change.TheVariants.{Add}
+use Rattle.jo_value.specs.declared.words.node.Node.{Node}
+use Rattle.jo_value.specs.Words.{node_bits}
+use Rattle.jo_model.specs.Heaps.{Heap, objects_of}
+use Rattle.jo_rule.specs.Views.{View, Storage, word_in}
+use Rattle.jo_rule.specs.Lists.{Live}
+use Rattle.jo_rule.specs.Contents.{Role, unnamed, root_of}
+
+-- word k of a pass's storage, and its structure k
+abbrev pub address_of : ℕ → ℕ → ℕ
+address_of pass k = MOST_STORAGE * pass + k
+
+abbrev pub structure_of : ℕ → ℕ → Sid
+structure_of pass k = record { 0 = MOST_STRUCTURES * pass + k }
+
+-- the node of each root has no name, and stands at the top
+abbrev pub root_node : Node
+root_node = record { parent = record { 0 = 0 }; name = record { 0 = 0 }; offset = 0; top = 0; depth = 0; change = Add }
+
+-- the words of the own storage that no cell has named are as the view knows them, and 0 where it has used none
+pub record OwnsStorage (s : ℕ → ℕ) (role : ℕ → Role) (pass : ℕ) (own : Storage) : Type 0 where
+  pub named : own.named ≤ own.used
+  pub used : own.used ≤ MOST_STORAGE
+  pub nameless : (k : ℕ) → own.named ≤ k → k < MOST_STORAGE → role (address_of pass k) ≡ unnamed
+  pub known : (k : ℕ) → own.named ≤ k → k < MOST_STORAGE → s (address_of pass k) ≡ word_in own.fresh k
+  pub zeros : (k : ℕ) → own.used ≤ k → word_in own.fresh k ≡ 0
+
+abbrev pub StorageIsOwn : (ℕ → ℕ) → (ℕ → Role) → ℕ → View → Type 0
+StorageIsOwn s role seat v = OwnsStorage s role v.number v.storage
+
+-- the objects of a pass are those that it has made
+abbrev pub ObjectsAreOwn : Heap → ℕ → View → Type 0
+ObjectsAreOwn heap seat v = v.births.objects ≡ length (objects_of heap v.number)
+
+-- the structures that a pass has not made are unborn
+pub record OwnsStructures (nodes : Sid → ℕ) (pass made : ℕ) : Type 0 where
+  pub root : 0 < made
+  pub few : made ≤ MOST_STRUCTURES
+  pub unborn : (k : ℕ) → made ≤ k → k < MOST_STRUCTURES → nodes (structure_of pass k) ≡ 0
+
+abbrev pub StructuresAreOwn : (Sid → ℕ) → ℕ → View → Type 0
+StructuresAreOwn nodes seat v = OwnsStructures nodes v.number v.births.nodes
+
+pub record Owned (s : ℕ → ℕ) (role : ℕ → Role) (heap : Heap) (views : List View) : Type 0 where
+  pub storage : Live views (StorageIsOwn s role)
+  pub objects : Live views (ObjectsAreOwn heap)
+
+pub record Structures (passes : ℕ) (nodes : Sid → ℕ) (views : List View) : Type 0 where
+  pub roots : (pass : ℕ) → pass < passes → nodes (root_of pass) ≡ node_bits root_node
+  pub own : Live views (StructuresAreOwn nodes)
+
+-- An unborn structure has no child and valid sets, and the words beside the cell of an unborn object are 0.
+pub record Unborn (cells : ObjId → Option Cell) (nodes first_children transition_sets write_sets : Sid → ℕ) (inline_words : ObjId → ℕ → ℕ) : Type 0 where
+  pub children : (s : Sid) → nodes s ≡ 0 → first_children s ≡ 0
+  pub transitions : (s : Sid) → nodes s ≡ 0 → transition_sets s ≡ VALID
+  pub writes : (s : Sid) → nodes s ≡ 0 → write_sets s ≡ VALID
+  pub offsets : (o : ObjId) (j : ℕ) → cells o ≡ None → inline_words o j ≡ 0
+
+-- A pass that was not made is out, and nothing of it was begun.
+pub record Unmade (passes made : ℕ) (acknowledgements : ℕ → ℕ) (nodes : Sid → ℕ) (s : ℕ → ℕ) (role : ℕ → Role) (heap : Heap) : Type 0 where
+  pub out : (t : ℕ) → made ≤ t → t < passes → acknowledgements t ≡ OUT
+  pub structures : (t k : ℕ) → made ≤ t → t < passes → 0 < k → k < MOST_STRUCTURES → nodes (structure_of t k) ≡ 0
+  pub nameless : (t k : ℕ) → made ≤ t → t < passes → k < MOST_STORAGE → role (address_of t k) ≡ unnamed
+  pub storage : (t k : ℕ) → made ≤ t → t < passes → k < MOST_STORAGE → s (address_of t k) ≡ 0
+  pub objects : (t : ℕ) → made ≤ t → length (objects_of heap t) ≡ 0
