@@ -5,7 +5,7 @@ use Rattle.std.proofs.lemmas.List.{take-map, length-map}
 use Rattle.std.proofs.Math.ListN.{get_or-map}
 use Rattle.std.proofs.lemmas.List.Folds.{length-flat_map-take}
 use Rattle.jo_model.specs.Printed.{joined}
-use Rattle.jo_vm.specs.Lines.{Adds}
+use Rattle.jo_vm.specs.inner.Lines.{Adds}
 
 module _ {a b c p q : List ℕ} {r s : Bool} (first : Adds a b p r) (done : r ≡ true) (next : Adds b c q s) where
   longer : length b ≡ length a + length p

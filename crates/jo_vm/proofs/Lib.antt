@@ -7,3 +7,4 @@ pub mod Operands
 pub mod Steps
 pub mod Truths
 pub mod Stages
+pub mod Crosses

@@ -9,7 +9,7 @@ use jo_value::Value;
 
 impl<'a> Frame<'a> {
     ghost use Rattle.jo_code.specs.Needs.{reach_to, reach_in};
-    ghost use Rattle.jo_vm.specs.State.{IsKnown, fixed, Acted};
+    ghost use Rattle.jo_vm.specs.inner.State.{IsKnown, fixed, Acted};
 
     /// Does what an instruction says.
     pub(crate) fn act(&mut self, instruction: &Instruction) -> Step
@@ -50,7 +50,7 @@ impl<'a> Frame<'a> {
             Instruction::ShortCircuit { when, skip } => self.short_circuit(*when, *skip),
             Instruction::Print(count) => self.print(*count),
             Instruction::Again(count) => Step::Back(*count),
-            _ => self.ask(instruction),
+            _ => Step::Asks,
         }
     }
 

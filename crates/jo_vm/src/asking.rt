@@ -2,20 +2,20 @@
 ghost use Rattle.std.specs.Prelude.{◌≡◌};
 ghost use Rattle.jo_code.specs.declared.instruction.Instruction.TheVariants as instruction;
 
-use crate::frame::{Due, Frame, Step};
+use crate::frame::{Due, Frame, Request};
 use crate::operators::object_in;
 use jo_code::{Base, Destination, Instruction, Operand};
 use jo_model::Call;
 
 impl<'a> Frame<'a> {
-    ghost use Rattle.jo_vm.specs.Calls.{IsCall};
-    ghost use Rattle.jo_vm.specs.State.{IsKnown, fixed, Acted};
+    ghost use Rattle.jo_vm.specs.inner.Calls.{IsCall};
+    ghost use Rattle.jo_vm.specs.inner.State.{IsKnown, fixed, Requested};
 
     /// Does what an instruction says that asks a call.
-    pub(crate) fn ask(&mut self, instruction: &Instruction) -> Step
+    pub(crate) fn ask(&mut self, instruction: &Instruction) -> Request
         requires known { IsKnown self.old }
         requires call { IsCall instruction.now }
-        ensures acted { Acted instruction.now self.old result self.new }
+        ensures acted { Requested instruction.now self.old result self.new }
         ensures fixed { fixed self.new ≡ fixed self.old }
     {
         match instruction {
@@ -42,51 +42,51 @@ impl<'a> Frame<'a> {
         }
     }
 
-    fn has(&mut self, to: &Destination, key: &Operand, object: &Operand) -> Step
+    fn has(&mut self, to: &Destination, key: &Operand, object: &Operand) -> Request
         requires { IsKnown self.old }
-        ensures acted { Acted (instruction.Has to.now key.now object.now) self.old result self.new }
+        ensures acted { Requested (instruction.Has to.now key.now object.now) self.old result self.new }
         ensures fixed { fixed self.new ≡ fixed self.old }
     {
         let object = self.value(object);
         let key = self.value(key);
         match self.property(object, key) {
-            Ok((object, key)) => Step::Call(Call::Has { object, key }, Due::Flag(*to)),
-            Err(fault) => Step::End(fault),
+            Ok((object, key)) => Request::Call(Call::Has { object, key }, Due::Flag(*to)),
+            Err(fault) => Request::End(fault),
         }
     }
 
-    fn get(&mut self, to: &Destination, object: &Operand, key: &Operand) -> Step
+    fn get(&mut self, to: &Destination, object: &Operand, key: &Operand) -> Request
         requires { IsKnown self.old }
-        ensures acted { Acted (instruction.Get to.now object.now key.now) self.old result self.new }
+        ensures acted { Requested (instruction.Get to.now object.now key.now) self.old result self.new }
         ensures fixed { fixed self.new ≡ fixed self.old }
     {
         let key = self.value(key);
         let object = self.value(object);
         match self.property(object, key) {
-            Ok((object, key)) => Step::Call(Call::Get { object, key }, Due::Found(*to)),
-            Err(fault) => Step::End(fault),
+            Ok((object, key)) => Request::Call(Call::Get { object, key }, Due::Found(*to)),
+            Err(fault) => Request::End(fault),
         }
     }
 
-    fn peek(&mut self, object: &Operand, key: &Operand) -> Step
+    fn peek(&mut self, object: &Operand, key: &Operand) -> Request
         requires { IsKnown self.old }
-        ensures acted { Acted (instruction.Peek object.now key.now) self.old result self.new }
+        ensures acted { Requested (instruction.Peek object.now key.now) self.old result self.new }
         ensures fixed { fixed self.new ≡ fixed self.old }
     {
         let object = self.seen_below(object, key);
         let key = self.seen(key);
         match self.property(object, key) {
-            Ok((object, key)) => Step::Call(
+            Ok((object, key)) => Request::Call(
                 Call::Get { object, key },
                 Due::Found(Destination::Top),
             ),
-            Err(fault) => Step::End(fault),
+            Err(fault) => Request::End(fault),
         }
     }
 
-    fn put(&mut self, keep: bool, object: &Operand, key: &Operand, new: &Operand) -> Step
+    fn put(&mut self, keep: bool, object: &Operand, key: &Operand, new: &Operand) -> Request
         requires { IsKnown self.old }
-        ensures acted { Acted (instruction.Put keep object.now key.now new.now) self.old result self.new }
+        ensures acted { Requested (instruction.Put keep object.now key.now new.now) self.old result self.new }
         ensures fixed { fixed self.new ≡ fixed self.old }
     {
         let value = self.value(new);
@@ -95,41 +95,47 @@ impl<'a> Frame<'a> {
         match self.property(object, key) {
             Ok((object, key)) => {
                 let due = if keep { Due::Kept(value) } else { Due::Done };
-                Step::Call(Call::Put { object, key, value }, due)
+                Request::Call(Call::Put { object, key, value }, due)
             }
-            Err(fault) => Step::End(fault),
+            Err(fault) => Request::End(fault),
         }
     }
 
-    fn fill(&mut self, key: &Operand, new: &Operand) -> Step
+    fn fill(&mut self, key: &Operand, new: &Operand) -> Request
         requires { IsKnown self.old }
-        ensures acted { Acted (instruction.Fill key.now new.now) self.old result self.new }
+        ensures acted { Requested (instruction.Fill key.now new.now) self.old result self.new }
         ensures fixed { fixed self.new ≡ fixed self.old }
     {
         let value = self.value(new);
         let key = self.value(key);
         match self.property(self.stack.top(), key) {
-            Ok((object, key)) => Step::Call(Call::Put { object, key, value }, Due::Done),
-            Err(fault) => Step::End(fault),
+            Ok((object, key)) => Request::Call(Call::Put { object, key, value }, Due::Done),
+            Err(fault) => Request::End(fault),
         }
     }
 
-    fn delete(&mut self, object: &Operand, key: &Operand) -> Step
+    fn delete(&mut self, object: &Operand, key: &Operand) -> Request
         requires { IsKnown self.old }
-        ensures acted { Acted (instruction.Delete object.now key.now) self.old result self.new }
+        ensures acted { Requested (instruction.Delete object.now key.now) self.old result self.new }
         ensures fixed { fixed self.new ≡ fixed self.old }
     {
         let key = self.value(key);
         let object = self.value(object);
         match self.property(object, key) {
-            Ok((object, key)) => Step::Call(Call::Delete { object, key }, Due::Done),
-            Err(fault) => Step::End(fault),
+            Ok((object, key)) => Request::Call(Call::Delete { object, key }, Due::Done),
+            Err(fault) => Request::End(fault),
         }
     }
 
-    fn cas(&mut self, object: &Base, key: &Operand, expected: &Operand, desired: &Operand) -> Step
+    fn cas(
+        &mut self,
+        object: &Base,
+        key: &Operand,
+        expected: &Operand,
+        desired: &Operand,
+    ) -> Request
         requires { IsKnown self.old }
-        ensures acted { Acted (instruction.Cas object.now key.now expected.now desired.now) self.old result self.new }
+        ensures acted { Requested (instruction.Cas object.now key.now expected.now desired.now) self.old result self.new }
         ensures fixed { fixed self.new ≡ fixed self.old }
     {
         let desired = self.value(desired);
@@ -144,27 +150,27 @@ impl<'a> Frame<'a> {
                     expected,
                     desired,
                 };
-                Step::Call(call, Due::Found(Destination::Top))
+                Request::Call(call, Due::Found(Destination::Top))
             }
-            Err(fault) => Step::End(fault),
+            Err(fault) => Request::End(fault),
         }
     }
 
-    fn make(&self) -> Step
-        ensures { Acted instruction.New self.now result self.now }
+    fn make(&self) -> Request
+        ensures { Requested instruction.New self.now result self.now }
     {
-        Step::Call(Call::New, Due::Made)
+        Request::Call(Call::New, Due::Made)
     }
 
-    fn print_names(&mut self, operand: &Operand) -> Step
+    fn print_names(&mut self, operand: &Operand) -> Request
         requires { IsKnown self.old }
-        ensures acted { Acted (instruction.PrintNames operand.now) self.old result self.new }
+        ensures acted { Requested (instruction.PrintNames operand.now) self.old result self.new }
         ensures fixed { fixed self.new ≡ fixed self.old }
     {
         let value = self.value(operand);
         match object_in(value) {
-            Ok(object) => Step::Call(Call::Names { object }, Due::Names),
-            Err(fault) => Step::End(fault),
+            Ok(object) => Request::Call(Call::Names { object }, Due::Names),
+            Err(fault) => Request::End(fault),
         }
     }
 }

@@ -6,6 +6,7 @@ use jo_model::Outcome;
 use jo_value::{Key, KeyOutside, Texts, Value};
 
 /// The key that a value is: of a number its index, of a text its name or index.
+#[inline(always)]
 pub(crate) fn key_in(texts: &Texts, value: Value) -> Result<Key, Outcome>
     ensures { result ≡ key_in texts.now value }
 {

@@ -3,7 +3,7 @@ ghost use Rattle.std.specs.Prelude.{◌≡◌, ◌≤◌, ◌+◌, [], ◌∷◌
 ghost use Rattle.jo_value.specs.Texts.{text_in};
 ghost use Rattle.jo_model.specs.Printed.{object_bytes, value_bytes, line_of};
 ghost use Rattle.jo_meaning.specs.Printed.{line_of_names};
-ghost use Rattle.jo_vm.specs.Lines.{Adds};
+ghost use Rattle.jo_vm.specs.inner.Lines.{Adds};
 
 use itoa::Buffer;
 use jo_value::{MOST_LINE_BYTES, NameId, ObjId, TextId, Texts, Value};

@@ -102,7 +102,7 @@ fn difference(i: i64, j: i64) -> Result<Value, Outcome>
     }
 }
 
-fn product(i: i64, j: i64) -> Result<Value, Outcome>
+pub(crate) fn product(i: i64, j: i64) -> Result<Value, Outcome>
     ensures { result ≡ safe (i *ℤ j) }
 {
     match i.checked_mul(j) {
@@ -111,7 +111,7 @@ fn product(i: i64, j: i64) -> Result<Value, Outcome>
     }
 }
 
-fn remainder(i: i64, j: i64) -> Result<Value, Outcome>
+pub(crate) fn remainder(i: i64, j: i64) -> Result<Value, Outcome>
     ensures { result ≡ remainder i j }
 {
     if j == 0 {
@@ -147,6 +147,7 @@ fn negated(x: Value) -> Result<Value, Outcome>
 }
 
 /// The object that a value is.
+#[inline(always)]
 pub(crate) fn object_in(value: Value) -> Result<ObjId, Outcome>
     ensures { result ≡ object_in value }
 {

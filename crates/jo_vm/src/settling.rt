@@ -11,7 +11,7 @@ impl<'a> Frame<'a> {
     ghost use Rattle.jo_meaning.specs.State.{names_in};
     ghost use Rattle.jo_meaning.specs.Printed.{line_of_names};
     ghost use Rattle.jo_vm.specs.Replies.{reach_due};
-    ghost use Rattle.jo_vm.specs.State.{fixed, Settled, Printed};
+    ghost use Rattle.jo_vm.specs.inner.State.{fixed, Settled, Printed};
 
     /// Does with a reply what is due. `Some` is how the script ends then.
     pub(crate) fn settle(&mut self, due: Due, reply: &Reply) -> Option<Outcome>

@@ -46,7 +46,7 @@ pub struct Vm<'a> {
 
 impl<'a> Model for Vm<'a> {
     ghost use Rattle.jo_vm.specs.Machines.{Machine};
-    ghost use Rattle.jo_vm.specs.State.{machine_of, IsSound};
+    ghost use Rattle.jo_vm.specs.inner.State.{machine_of, IsSound};
 
     ghost Value = { Machine };
 

@@ -2,7 +2,7 @@
 ghost use Rattle.std.specs.Prelude.{◌≡◌, ◌<◌, length, map};
 ghost use Rattle.jo_value.specs.Texts.{id_in};
 ghost use Rattle.jo_tree.specs.Words.{keyword_text};
-ghost use Rattle.jo_vm.specs.Words.{place_of, word_id, ids_in};
+ghost use Rattle.jo_vm.specs.inner.Words.{place_of, word_id, ids_in};
 
 use jo_tree::{KEYWORDS, Keyword};
 use jo_value::{TextId, Texts};
@@ -19,7 +19,7 @@ pub(crate) struct Words<'a> {
 
 impl<'a> Model for Words<'a> {
     ghost use Rattle.std.specs.Prelude.{◌≡◌, ℕ, List};
-    ghost use Rattle.jo_vm.specs.Words.{ids_in};
+    ghost use Rattle.jo_vm.specs.inner.Words.{ids_in};
 
     ghost Value = { List (List ℕ) };
 

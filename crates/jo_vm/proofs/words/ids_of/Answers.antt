@@ -1,7 +1,7 @@
 use Rattle.std.proofs.Common.{◌<◌, [], ◌∷◌, ◌++◌, length, map, take, sym, ap, ◌∙◌, arith}
 use Rattle.std.proofs.lemmas.List.{length-set, take_more_set, map_more}
 use Rattle.jo_tree.specs.declared.keyword.Keyword.TheVariants.{Break}
-use Rattle.jo_vm.specs.Words.{word_id}
+use Rattle.jo_vm.specs.inner.Words.{word_id}
 use Rattle.jo_vm.proofs.words.ids_of.Goals as goal
 
 pub loop-place-preserved : goal.loop-place-preserved

@@ -1,5 +1,5 @@
 use Rattle.std.proofs.Common.{◌≡◌, length, map, take}
-use Rattle.jo_vm.specs.Words.{word_id}
+use Rattle.jo_vm.specs.inner.Words.{word_id}
 use Rattle.jo_vm.proofs.words.ids_of.Given as goal
 
 abbrev pub invariant-loop-place : goal.invariant-loop-place

@@ -7,7 +7,7 @@ use Rattle.jo_model.specs.declared.call.Call.TheVariants as call
 use Rattle.jo_code.specs.declared.instruction.Instruction.TheVariants as instruction
 use Rattle.jo_code.specs.Machine.{Place}
 use Rattle.jo_vm.specs.declared.frame.Due.TheVariants as due
-use Rattle.jo_vm.specs.State.{Asking, Owns, acting, state_of}
+use Rattle.jo_vm.specs.inner.State.{Asking, Owns, acting, state_of}
 use Rattle.jo_vm.proofs.Operands.{on_two}
 use Rattle.jo_vm.proofs.frame.Frame.get.Goals as goal
 

@@ -1,7 +1,7 @@
 use Rattle.std.proofs.Common.{codes, subst}
 use Rattle.std.proofs.lemmas.List.{take_rest}
 use Rattle.jo_value.specs.Texts.{text_in}
-use Rattle.jo_vm.specs.Lines.{Adds}
+use Rattle.jo_vm.specs.inner.Lines.{Adds}
 use Rattle.jo_vm.proofs.Adding.{adds_then, joined_first}
 use Rattle.jo_vm.proofs.lines.Lines.add_names.Goals as goal
 

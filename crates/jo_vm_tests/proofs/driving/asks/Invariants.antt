@@ -1,0 +1,5 @@
+use Rattle.jo_vm.specs.Machines.{IsFree, stands}
+use Rattle.jo_vm_tests.proofs.driving.asks.Given as goal
+
+abbrev pub invariant-loop : goal.invariant-loop
+invariant-loop l = IsFree (stands l.vm)
