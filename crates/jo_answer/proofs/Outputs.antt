@@ -1,6 +1,5 @@
 -- The output of a script that ran alone.
 use Rattle.std.proofs.Common.{◌≡◌, ℕ, List, [], ◌∷◌, ◌++◌, refl, sym, ap, ◌∙◌}
-use Rattle.std.proofs.lemmas.List.{append-nil}
 use Rattle.jo_value.specs.Texts.{Table}
 use Rattle.jo_tree.specs.Trees.{Items}
 use Rattle.jo_model.specs.declared.call.Outcome.{Outcome}
@@ -11,6 +10,7 @@ use Rattle.jo_meaning.specs.Runs.{Ended}
 use Rattle.jo_meaning.specs.Histories.{IsHistoryOf, run_in, played_alone}
 use Rattle.jo_meaning.specs.Output.{stand_bytes}
 use Rattle.jo_alone.specs.Alone.{IsRunAlone}
+use Rattle.jo_render.specs.Output.{output_bytes}
 use Rattle.jo_answer.specs.Answers.{IsOutputOf}
 
 -- where the one script of a history stands
@@ -21,11 +21,11 @@ stand_alone script texts turns w o of_script =
     let same : o ≡ run.0 = cc (run.1) in
     run.2.ended ∙ ap Ended (sym same)
 
--- its lines and its outcome as they are written, and then the objects
-pub output_alone : (script : Items) (texts : Table) (turns : ℕ) (heap : Heap) (lines : List ℕ) (o : Outcome) (start first text : List ℕ)
+-- the output by what it left is that of the history which one thread gives for it
+pub output_alone : (script : Items) (texts : Table) (turns : ℕ) (heap : Heap) (lines : List ℕ) (o : Outcome)
     → IsRunAlone script texts turns heap lines o
-    → start ≡ [] → first ≡ start ++ run_bytes 1 lines (outcome_bytes o) → text ≡ first ++ heap_bytes texts heap → IsOutputOf script texts turns o text
-output_alone script texts turns heap lines o start first text run empty ran all =
+    → IsOutputOf script texts turns o (output_bytes texts (record { lines = lines; outcome = o } ∷ []) heap)
+output_alone script texts turns heap lines o run =
     let w = (played_alone script texts turns).history in
     let made = run_in w 1 script texts turns in
     let objects = heap_bytes texts (heap_after 2 w) in
@@ -33,10 +33,7 @@ output_alone script texts turns heap lines o start first text run empty ran all 
       of_script = run.of_script;
       alone = run.alone;
       written_is =
-          all
-          ∙ ap (λ t. t ++ heap_bytes texts heap) (ran ∙ ap (λ t. t ++ run_bytes 1 lines (outcome_bytes o)) empty)
-          ∙ ap (λ h. run_bytes 1 lines (outcome_bytes o) ++ heap_bytes texts h) run.heap_is
-          ∙ ap (λ l. run_bytes 1 l (outcome_bytes o) ++ objects) run.lines_are
-          ∙ ap (λ s. run_bytes 1 made.lines (stand_bytes s) ++ objects) (sym (stand_alone script texts turns w o run.of_script))
-          ∙ ap (λ t. t ++ objects) (sym (append-nil (run_bytes 1 made.lines (stand_bytes made.stand))));
+          ap (λ h. (run_bytes 1 lines (outcome_bytes o) ++ []) ++ heap_bytes texts h) run.heap_is
+          ∙ ap (λ l. (run_bytes 1 l (outcome_bytes o) ++ []) ++ objects) run.lines_are
+          ∙ ap (λ s. (run_bytes 1 made.lines (stand_bytes s) ++ []) ++ objects) (sym (stand_alone script texts turns w o run.of_script));
     }

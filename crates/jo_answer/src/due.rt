@@ -1,18 +1,17 @@
 // The answer to an input.
 ghost use Rattle.std.specs.Prelude.{◌≡◌, ◌≤◌, length, List, ℕ, IfOk};
 ghost use Rattle.jo_value.specs.declared.limits.TheConstants.{MOST_INPUT};
-ghost use Rattle.jo_tree.specs.Trees.{Items as Tree};
 ghost use Rattle.jo_parse.specs.Parsed.{trees_of};
 ghost use Rattle.jo_grammar.specs.Sets.{IsAcceptedSet};
-ghost use Rattle.jo_alone.specs.Alone.{IsRunAlone};
-ghost use Rattle.jo_answer.specs.Answers.{verdict_of, IsDue, IsOutputOf};
+ghost use Rattle.jo_answer.specs.Answers.{verdict_of, IsDue};
+ghost use Rattle.jo_answer.specs.Texts.{text_of};
 
 use crate::lines::{NOT_BUILT_LINE, SIZE_LINE, refusal_line};
-use jo_alone::{Ran, run_alone};
+use crate::text::Due;
+use jo_alone::run_alone;
 use jo_model::Outcome;
 use jo_parse::{ParseFault, ScriptSet, parse_set};
-use jo_render::{add_heap, add_run};
-use jo_value::{MOST_INPUT, Texts};
+use jo_value::MOST_INPUT;
 use std::alloc::{AllocError, Global};
 
 /// What is said of an input.
@@ -28,29 +27,29 @@ pub enum Verdict {
     TooLarge,
 }
 
-/// What is said of an input, and the output that is due for it.
+/// What is said of an input, and what is due for it.
 #[derive(Drop)]
 pub struct Answer {
     pub verdict: Verdict,
-    pub output: Vec<u8>,
+    pub due: Due,
 }
 
 /// The answer to an input, of which a byte more than the most may be given. Its script has so many turns.
 pub fn answer_to(alloc: Global, bytes: &[u8], turns: u32) -> Result<Answer, AllocError>
     ensures whole { IfOk result (λ answer. (answer.verdict ≡ Verdict.TooLarge → ⊥) → length bytes.now ≤ MOST_INPUT) }
-    ensures due { IfOk result (λ answer. IsDue answer.verdict turns bytes.now answer.output.items) }
+    ensures due { IfOk result (λ answer. IsDue answer.verdict turns bytes.now (text_of answer.due)) }
 {
     if bytes.len() > MOST_INPUT {
         return line(alloc, Verdict::TooLarge, SIZE_LINE);
     }
     match parse_set(alloc, bytes) {
         Ok(set) => {
-            let answer = answer_to_set(alloc, &set, turns)?;
+            let answer = answer_to_set(alloc, set, turns)?;
             Ok(answer)
         }
         Err(ParseFault::Refused(refusal)) => Ok(Answer {
             verdict: Verdict::Refused,
-            output: refusal_line(alloc, refusal)?,
+            due: Due::Line(refusal_line(alloc, refusal)?),
         }),
         Err(ParseFault::Memory) => Err(AllocError),
     }
@@ -59,27 +58,26 @@ pub fn answer_to(alloc: Global, bytes: &[u8], turns: u32) -> Result<Answer, Allo
 // A line and nothing else.
 fn line(alloc: Global, verdict: Verdict, line: &[u8]) -> Result<Answer, AllocError>
     ensures verdict { IfOk result (λ answer. answer.verdict ≡ verdict) }
-    ensures output { IfOk result (λ answer. answer.output.items ≡ line.now) }
+    ensures text { IfOk result (λ answer. text_of answer.due ≡ line.now) }
 {
     Ok(Answer {
         verdict,
-        output: line.to_vec(alloc)?,
+        due: Due::Line(line.to_vec(alloc)?),
     })
 }
 
 // The answer to an accepted set.
-fn answer_to_set(alloc: Global, set: &ScriptSet, turns: u32) -> Result<Answer, AllocError>
-    ensures { IfOk result (λ answer. (bytes : List ℕ) → IsAcceptedSet bytes (trees_of set.now) set.now.1
-        → IsDue answer.verdict turns bytes answer.output.items) }
+fn answer_to_set(alloc: Global, set: ScriptSet, turns: u32) -> Result<Answer, AllocError>
+    ensures { IfOk result (λ answer. (bytes : List ℕ) → IsAcceptedSet bytes (trees_of set) set.1
+        → IsDue answer.verdict turns bytes (text_of answer.due)) }
 {
     if set.len() > 1 {
         return line(alloc, Verdict::Refused, NOT_BUILT_LINE);
     }
     let ran = run_alone(alloc, set.script(0), set.texts(), turns)?;
-    let output = output(alloc, set.texts(), &ran)?;
     Ok(Answer {
         verdict: verdict_of(ran.outcome),
-        output,
+        due: Due::Output { set, ran },
     })
 }
 
@@ -97,16 +95,4 @@ fn verdict_of(outcome: Outcome) -> Verdict
         | Outcome::ObjectsSpent
         | Outcome::Spent => Verdict::EndedWithFaults,
     }
-}
-
-// The output of a script that was run.
-fn output(alloc: Global, texts: &Texts, ran: &Ran) -> Result<Vec<u8>, AllocError>
-    ensures { IfOk result (λ written. (script : Tree) (turns : ℕ)
-        → IsRunAlone script texts.now turns ran.now.heap ran.now.lines.items ran.now.outcome
-        → IsOutputOf script texts.now turns ran.now.outcome written.items) }
-{
-    let mut written = Vec::new(alloc);
-    add_run(alloc, &mut written, 1, ran.lines.as_slice(), ran.outcome)?;
-    add_heap(alloc, &mut written, texts, &ran.heap)?;
-    Ok(written)
 }

@@ -3,5 +3,7 @@
 
 mod due;
 mod lines;
+mod text;
 
 pub use due::{Answer, Verdict, answer_to};
+pub use text::Due;

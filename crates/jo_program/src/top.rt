@@ -1,10 +1,10 @@
 // The top call.
-ghost use Rattle.std.specs.Prelude.{◌≡◌, ◌≢◌, ◌⊎◌, ◌+◌, ℕ, None, Some, IfSome, IfOk, IsErrOf};
-ghost use Rattle.std.specs.Io.KnownBytes.{Appends};
+ghost use Rattle.std.specs.Prelude.{◌≡◌, ◌≢◌, ◌⊎◌, ◌+◌, ℕ, None, Some, IfSome, IfOk, OnOk, OnErr, IsErrOf};
 ghost use Rattle.jo_value.specs.declared.limits.TheConstants.{MOST_INPUT};
 ghost use Rattle.jo_io.specs.Causes.{Counts};
-ghost use Rattle.jo_io.specs.Bytes.{ConsumesAtMost, AppendsPart};
+ghost use Rattle.jo_io.specs.Bytes.{ConsumesAtMost};
 ghost use Rattle.jo_answer.specs.declared.due.Verdict.TheVariants as verdict;
+ghost use Rattle.jo_answer.specs.Texts.{text_of};
 ghost use Rattle.jo_program.specs.Words.{turns_of};
 ghost use Rattle.jo_program.specs.Run.{status_of, IsAnswer, IsAnswerTo, IsJudged, IsDueOutput, IsUsage, Writes, WritesPart};
 
@@ -70,19 +70,19 @@ pub fn run<R: Threads + Wait + Sync, S: Source, K: Sink>(
         → ConsumesAtMost (S.left source.old) (S.left source.new) MOST_INPUT }
 {
     let Some(turns) = turns_of(words) else {
-        return finish(sink, USAGE_LINE, Status::Usage);
+        return finish(write_all(sink, USAGE_LINE), Status::Usage);
     };
     match answer_of(alloc, turns, source) {
-        Ok(answer) => finish(sink, &answer.output, status_of(answer.verdict)),
+        Ok(answer) => finish(answer.due.print(sink), status_of(answer.verdict)),
         Err(ReadError::Failed) => Status::ReadFault,
         Err(ReadError::Memory) => Status::Memory,
     }
 }
 
-// Reads the input: what is said of it, and the output that is due for it.
+// Reads the input: what is said of it, and what is due for it.
 fn answer_of<S: Source>(alloc: Global, turns: u32, source: &mut S) -> Result<Answer, ReadError>
     ensures due { IfOk result (λ answer. IsAnswer turns answer.verdict
-        (S.left source.old) (S.left source.new) answer.output.items) }
+        (S.left source.old) (S.left source.new) (text_of answer.due)) }
     ensures judged { IfOk result (λ answer.
         IfSome (S.left source.old) (IsJudged turns (status_of answer.verdict))) }
     ensures bound { ConsumesAtMost (S.left source.old) (S.left source.new) (MOST_INPUT + 1) }
@@ -107,17 +107,12 @@ fn status_of(verdict: Verdict) -> Status
     }
 }
 
-// Writes an output and answers the status, or the fault of writing.
-fn finish<K: Sink>(sink: &mut K, output: &[u8], status: Status) -> Status
-    requires { status ≢ Status.WriteFault }
-    ensures answer { (result ≡ status) ⊎ (result ≡ Status.WriteFault) }
-    ensures written { result ≢ Status.WriteFault
-        → Appends (K.held sink.old) (K.held sink.new) output.now }
-    ensures part { result ≡ Status.WriteFault
-        → AppendsPart (K.held sink.old) (K.held sink.new) output.now }
-    ensures cause { Counts (result ≡ Status.WriteFault) (K.faults sink.old) (K.faults sink.new) }
+// The status where all was written, or the fault of writing.
+fn finish(written: Result<(), Failed>, status: Status) -> Status
+    ensures ok { OnOk written (result ≡ status) }
+    ensures err { OnErr written (result ≡ Status.WriteFault) }
 {
-    match write_all(sink, output) {
+    match written {
         Ok(()) => status,
         Err(Failed) => Status::WriteFault,
     }

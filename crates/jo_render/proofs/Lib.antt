@@ -1,3 +1,4 @@
-pub mod Pairs
-pub mod Numbered
-pub mod Headed
+pub mod FirstLine
+pub mod Rests
+pub mod InOrder
+pub mod OnePart

@@ -1,12 +1,8 @@
-//! Values and the output of a run, as bytes.
+//! The output of a run, printed as it is made.
 #![tactic(auto)]
 
-mod heap;
-mod output;
-mod properties;
-mod quoted;
-mod value;
+mod objects;
+mod print;
 
-pub use heap::add_heap;
-pub use output::add_run;
-pub use value::{add_line, add_value};
+pub use objects::Objects;
+pub use print::{Part, print_heap, print_output, print_parts, print_run};

@@ -6,7 +6,7 @@ use std::test::Fail;
 // A script and what is written for it.
 type Script = (&'static [u8], &'static [u8]);
 
-const DONE: [Script; 18] = [
+const DONE: [Script; 19] = [
     (
         b"shared.x = 1; shared.y = 2; print(shared.x, shared.z);",
         b"1| 1 undefined\n1= done\n#0.0 {\"x\": 1, \"y\": 2}\n",
@@ -52,8 +52,12 @@ const DONE: [Script; 18] = [
         b"1| c\"d\\\n1= done\n#0.0 {\"a\\\"b\\\\\": \"c\\\"d\\\\\", \"s\": \"\"}\n",
     ),
     (
-        b"let o = {n: null, t: true, u: undefined, m: -1}; print(cas(o, \"n\", null, 7), cas(o, \"n\", null, 8), cas(o, \"z\", undefined, 1));",
-        b"1| null 7 undefined\n1= done\n#0.0 {}\n#1.0 {\"n\": 7, \"t\": true, \"u\": undefined, \"m\": -1}\n",
+        b"let o = {n: null, t: true, f: false, u: undefined, m: -1}; print(cas(o, \"n\", null, 7), cas(o, \"n\", null, 8), cas(o, \"z\", undefined, 1));",
+        b"1| null 7 undefined\n1= done\n#0.0 {}\n#1.0 {\"n\": 7, \"t\": true, \"f\": false, \"u\": undefined, \"m\": -1}\n",
+    ),
+    (
+        b"print(undefined, null, true, false, 0, -9007199254740991, \"a \\\"word\\\"\", \"\", {});",
+        b"1| undefined null true false 0 -9007199254740991 a \"word\"  #1.0\n1= done\n#0.0 {}\n#1.0 {}\n",
     ),
     (
         b"let o = {a: 1, 2: 3}; printNames(o); delete o.a; printNames(o); print();",

@@ -1,50 +1,7 @@
-// Inputs read to their end, outputs written whole and how values are written, with ample memory; and
-// that no call is made that is not needed.
+// Inputs read to their end and texts written whole, with ample memory; and that no call is made that
+// is not needed.
 use jo_io::{Failed, MemorySink, MemorySource, ReadError, Sink, Source, read_all, write_all};
-use jo_model::Outcome;
-use jo_render::{add_line, add_run, add_value};
-use jo_value::{ObjId, TextId, Texts, Value};
 use std::test::Fail;
-
-#[test]
-fn values_of_all_kinds_stand_in_a_line(rt: HostRuntime) -> Result<(), Fail> {
-    let alloc = rt.alloc();
-    let mut texts = Texts::new(alloc);
-    let word = texts.intern("a \"word\"")?;
-    let far = ObjId {
-        pass: 3,
-        serial: 4_095,
-    };
-    let values = [
-        Value::Undefined,
-        Value::Null,
-        Value::Bool(true),
-        Value::Bool(false),
-        Value::Int(0),
-        Value::Int(-9_007_199_254_740_991),
-        Value::Text(word),
-        Value::Text(TextId(7)),
-        Value::Object(far),
-    ];
-    let mut line = Vec::new(alloc);
-    add_line(alloc, &mut line, &texts, &values)?;
-    add_value(alloc, &mut line, &texts, Value::Bool(true))?;
-    let expected = "undefined null true false 0 -9007199254740991 a \"word\"  #3.4095true";
-    assert_eq!(rt; line.as_slice(), expected.as_bytes());
-    Ok(())
-}
-
-#[test]
-fn a_run_of_two_lines(rt: HostRuntime) -> Result<(), Fail> {
-    let alloc = rt.alloc();
-    let mut text = Vec::new(alloc);
-    add_run(alloc, &mut text, 12, b"one 1\n\n", Outcome::TypeFault)?;
-    assert_eq!(rt;
-        text.as_slice(),
-        b"12| one 1\n12| \n12= TypeFault\n".as_slice()
-    );
-    Ok(())
-}
 
 #[test]
 fn a_failed_read_loses_what_was_read(rt: HostRuntime) -> Result<(), Fail> {

@@ -1,0 +1,15 @@
+// Integers in decimal.
+ghost use Rattle.jo_print.specs.Printers.{Prints};
+
+use crate::Printer;
+use itoa::{Buffer, Integer};
+use jo_io::Sink;
+
+impl<'a, K: Sink> Printer<'a, K> {
+    /// Prints an integer in decimal, with `-` before it where it is negative.
+    pub fn put_integer<I: Integer>(&mut self, number: I)
+        ensures { Prints K.held K.faults self.old self.new (I.text number) }
+    {
+        self.put(Buffer::new().format(number).as_bytes());
+    }
+}

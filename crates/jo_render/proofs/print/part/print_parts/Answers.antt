@@ -1,0 +1,14 @@
+use Rattle.std.proofs.Common.{◌+◌}
+use Rattle.jo_print.proofs.Printed.{leaves-start, leaves-more}
+use Rattle.jo_render.specs.Output.{part_bytes}
+use Rattle.jo_render.proofs.Rests.{numbered-rest}
+use Rattle.jo_render.proofs.print.part.print_parts.Goals as goal
+
+pub loop-before-init : goal.loop-before-init
+loop-before-init g c = leaves-start _ _
+
+pub loop-before-preserved : goal.loop-before-preserved
+loop-before-preserved g c =
+    let before = c.loop-before.before in
+    let read = c.index-parts-before in
+    leaves-more _ c.loop-before.invariant c.print.ensures (numbered-rest part_bytes c.args.parts.now (before + 1) before read.result read.result c.loop-before-test.true read.is)
