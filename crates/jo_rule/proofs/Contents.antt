@@ -107,12 +107,25 @@ pub standing_of : {s : ℕ → ℕ} {role : ℕ → Role} {o : ObjId} (x : Optio
 standing_of {s} {role} {o} x {now} {z} c is h = subst (λ (y : Option Cell). Stands s role o y now z) is h
 
 module _ {P : ℕ} {s : ℕ → ℕ} {cells : ObjId → Option Cell} {role : ℕ → Role} {now : ObjId → Now} {heap : Heap} (r : Contents P s cells role now heap) where
+  -- address 0 is no block, and its word is 0
+  pub zero_is_zero : s 0 ≡ 0
+  zero_is_zero = r.still 0 0 r.origin
+
+  pub no_block_at_zero : (o : ObjId) (c : Cell) → cells o ≡ Some c → c.address ≢ 0
+  no_block_at_zero o c is at =
+      let h = standing_of (cells o) c is (r.stands o) in
+      let d = dictionary_of c.kind (so_far h) h.kind in
+      let both : fixed (dictionary_header (now o).room) ≡ fixed 0 = sym d.header ∙ (ap role at ∙ r.origin) in
+      let one : dictionary_header (now o).room ≡ 0 = cc in
+      omega (arith, one)
+
   -- a word is stored that does not stay for ever; where it is a dictionary's, that is locked
   pub stores_contents : (a x : ℕ) → ((word : ℕ) → role a ≢ fixed word) → ((o : ObjId) (c : Cell) → cells o ≡ Some c → role a ≡ dictionary o → c.locked ≡ true) → Contents P (set_number s a x) cells role now heap
   stores_contents a x loose held = record {
     stands = λ o. stands_stores s role o (cells o) (now o) (object_of heap o) a x (held o) (r.stands o);
     born = r.born;
     still = λ b word e. number_else s a b x (λ f. loose word (ap role (sym f) ∙ e)) ∙ r.still b word e;
+    origin = r.origin;
     inside = r.inside;
     words = r.words;
     valid = r.valid;
@@ -130,6 +143,7 @@ module _ {P : ℕ} {s : ℕ → ℕ} {cells : ObjId → Option Cell} {role : ℕ
         (λ i. (sym (object_else cells o q (Some c) n) i, sym (object_else now o q w n) i)) (stands_grows s role role' q (cells q) (now q) (object_of heap q) (object_of heap' q) grows (others q n) (r.stands q))) (cases_object q o);
     born = born;
     still = λ a word e. ⊎_elim (λ (f : role a ≡ fixed word). r.still a word f) (λ f. f) (new a word e);
+    origin = grows 0 (not_nameless 0 role 0 r.origin) ∙ r.origin;
     inside = inside;
     words = λ q. ⊎_elim (λ (e : q ≡ o). subst (λ (x : ObjId). HasWords (object_of heap' x)) (sym e) words) (λ (n : q ≢ o). subst HasWords (sym (others q n)) (r.words q)) (cases_object q o);
     valid = valid;

@@ -18,7 +18,7 @@ use Rattle.jo_rule.specs.declared.event.Event.{Event}
 use Rattle.jo_rule.specs.Names.{cell, storage}
 use Rattle.jo_rule.specs.Areas.{Words, put, stored, set_number, set_object}
 use Rattle.jo_rule.specs.Marks.{Mark}
-use Rattle.jo_rule.specs.Views.{View, Births, Lock}
+use Rattle.jo_rule.specs.Views.{View, Lock}
 use Rattle.jo_rule.specs.Events.{recorded, past_after}
 use Rattle.jo_rule.specs.Dictionaries.{block_size, dictionary_header}
 use Rattle.jo_rule.specs.Contents.{Role, unnamed, fixed, dictionary, Now, Grows, word_of_cell, is_born, Standing, Stands, HasWords}
@@ -100,8 +100,8 @@ module _ {P : ℕ} {w : Words} {views : List View} (id : ℕ) (v u : View) (r : 
   alive = sym same.live ∙ l
 
   -- a step changes no word, and the pass saw more of the log, or as much
-  pub looks : SawMore r.log v u → v.storage ≡ u.storage → v.births ≡ u.births → v.lock ≡ u.lock → Rule P w (set views id u)
-  looks saw store births lock = record {
+  pub looks : SawMore r.log v u → v.storage ≡ u.storage → v.births.objects ≡ u.births.objects → v.births.nodes ≡ u.births.nodes → v.lock ≡ u.lock → Rule P w (set views id u)
+  looks saw store objects nodes lock = record {
     log = r.log;
     made = r.made;
     home = r.home;
@@ -112,16 +112,16 @@ module _ {P : ℕ} {w : Words} {views : List View} (id : ℕ) (v u : View) (r : 
     histories = saw_histories views id v u at l same saw r.placements r.histories;
     coded = r.coded;
     contents = r.contents;
-    owned = same_owned views id u v at l same.number store births r.owned;
-    structures = same_structures views id v u at l same.number (ap (λ (b : Births). b.nodes) births) r.structures;
+    owned = same_owned views id u v at l same.number store objects r.owned;
+    structures = same_structures views id v u at l same.number nodes r.structures;
     locks = same_locks views id v u at l alive lock (λ j y e ly g f w k lt. refl) r.locks;
     unborn = r.unborn;
     unmade = r.unmade;
   }
 
   -- a step changes no word, and an event is placed that is no change
-  pub looks_event : (event : Event) → RefusesLawfully v.number r.log event → recorded P v.number event r.log ≡ r.log → u.past ≡ past_after P v.number event r.log v.past.calls → v.storage ≡ u.storage → v.births ≡ u.births → v.lock ≡ u.lock → Rule P w (set views id u)
-  looks_event event law stays past store births lock = record {
+  pub looks_event : (event : Event) → RefusesLawfully v.number r.log event → recorded P v.number event r.log ≡ r.log → u.past ≡ past_after P v.number event r.log v.past.calls → v.storage ≡ u.storage → v.births.objects ≡ u.births.objects → v.births.nodes ≡ u.births.nodes → v.lock ≡ u.lock → Rule P w (set views id u)
+  looks_event event law stays past store objects nodes lock = record {
     log = r.log;
     made = r.made;
     home = r.home;
@@ -132,17 +132,17 @@ module _ {P : ℕ} {w : Words} {views : List View} (id : ℕ) (v u : View) (r : 
     histories = subst (λ (log : Log Mark). Histories P log r.made r.home (set views id u)) stays (event_histories views id v u at l same r.histories event law past r.placements);
     coded = r.coded;
     contents = r.contents;
-    owned = same_owned views id u v at l same.number store births r.owned;
-    structures = same_structures views id v u at l same.number (ap (λ (b : Births). b.nodes) births) r.structures;
+    owned = same_owned views id u v at l same.number store objects r.owned;
+    structures = same_structures views id v u at l same.number nodes r.structures;
     locks = same_locks views id v u at l alive lock (λ j y e ly g f w k lt. refl) r.locks;
     unborn = r.unborn;
     unmade = r.unmade;
   }
 
   -- a storage word is stored that is free
-  pub stores : (a x : ℕ) → SawMore r.log v u → v.births ≡ u.births → IsFree P r.made id views r.role r.cell a
+  pub stores : (a x : ℕ) → SawMore r.log v u → v.births.objects ≡ u.births.objects → v.births.nodes ≡ u.births.nodes → IsFree P r.made id views r.role r.cell a
       → OwnsStorage (set_number (stored w) a x) r.role u.number u.storage → Locks (set_number (stored w) a x) r.cell r.now (after P r.log) (set views id u) → Rule P (put w (storage a) x) (set views id u)
-  stores a x saw births free own locks = record {
+  stores a x saw objects nodes free own locks = record {
     log = r.log;
     made = r.made;
     home = r.home;
@@ -156,8 +156,8 @@ module _ {P : ℕ} {w : Words} {views : List View} (id : ℕ) (v u : View) (r : 
     owned = goes_owned views id u
         (λ j y n e ly h. owns_else h a x (λ k le lt f. free.others j y n e ly k lt (ap r.role (sym f) ∙ h.nameless k le lt) f))
         (λ j y n e ly. refl) own
-        (subst (λ (z : ℕ × Births). z.1.objects ≡ length (objects_of (after P r.log) z.0)) (λ i. (same.number i, births i)) (r.owned.objects id v at l)) r.owned;
-    structures = same_structures views id v u at l same.number (ap (λ (b : Births). b.nodes) births) r.structures;
+        (subst (λ (z : ℕ × ℕ). z.1 ≡ length (objects_of (after P r.log) z.0)) (λ i. (same.number i, objects i)) (r.owned.objects id v at l)) r.owned;
+    structures = same_structures views id v u at l same.number nodes r.structures;
     locks = locks;
     unborn = r.unborn;
     unmade = goes_unmade (λ t k le lt lk h. h) (λ t k le lt lk h. number_else (stored w) a (address_of t k) x (λ f. free.unmade t k le lt lk (ap r.role (sym f) ∙ h) f)) (λ t le. refl) r.unmade;

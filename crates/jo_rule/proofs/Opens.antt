@@ -1,6 +1,6 @@
 -- The words of a new heap, and the view of its first pass, satisfy the rule.
 use Rattle.std.proofs.Common.{◌≡◌, ◌≢◌, ◌+◌, ◌-◌, ◌*◌, ◌%◌, ◌<◌, ◌≤◌, ℕ, zero, suc, Bool, true, false, cond, eqb, ltb, ◌&&◌, List, [], ◌∷◌, refl, sym, ap, ◌∙◌, subst, ⊎_elim, arith, length, get_or, Option, Some, None}
-use Rattle.std.specs.Prelude.{nat_lt, slice_index, replicate, if◌then◌else◌}
+use Rattle.std.specs.Prelude.{nat_lt, nat_eq, slice_index, replicate, if◌then◌else◌}
 use Rattle.std.proofs.lemmas.Bool.{cases_eq, cases_lt, cond_both, both_ways, eq-eqb, ne_eqb, lt-ltb, le-ltb, and_from}
 use Rattle.std.proofs.lemmas.List.{get_or-replicate, get_or_past, length-replicate}
 use Rattle.jo_value.specs.declared.capacities.TheConstants.{MOST_PASSES, MOST_STRUCTURES, SHARED_ADDRESS, SHARED_STORAGE}
@@ -70,8 +70,21 @@ storage_first P lt = let e : ltb SHARED_ADDRESS (MOST_STORAGE * P) ≡ true = lt
 abbrev first_cells : ObjId → Option Cell
 first_cells = set_object (λ o. None) shared (Some shared_cell)
 
+-- before a block is named: word 0 is 0 for ever
+abbrev bare_roles : ℕ → Role
+bare_roles a = if nat_eq a 0 then fixed 0 else unnamed
+
 abbrev first_roles : ℕ → Role
-first_roles = named_roles (λ a. unnamed) SHARED_ADDRESS 0 shared
+first_roles = named_roles bare_roles SHARED_ADDRESS 0 shared
+
+first_zero : first_roles 0 ≡ fixed 0
+first_zero = refl
+
+first_else : (a : ℕ) → a ≢ 0 → ((k : ℕ) → k < block_size 0 → a ≢ SHARED_ADDRESS + k) → first_roles a ≡ unnamed
+first_else a n far =
+    let e : eqb a 0 ≡ false = ne_eqb a 0 n in
+    let bare : bare_roles a ≡ unnamed = rw e refl in
+    named_else bare_roles SHARED_ADDRESS 0 shared a far ∙ bare
 
 abbrev first_now : ObjId → Now
 first_now = set_object (λ o. unborn_now) shared (dictionary_now 0)
@@ -96,13 +109,16 @@ no_properties P = record {
   beyond = λ i le. refl;
 }
 
-first_still : (a word : ℕ) → first_roles a ≡ fixed word → (a ≡ SHARED_ADDRESS) × (word ≡ dictionary_header 0)
-first_still a word e = ⊎_elim
-    (λ (f : a ≡ SHARED_ADDRESS). (f, (let g : fixed (dictionary_header 0) ≡ fixed word = sym (ap first_roles f ∙ named_first (λ a. unnamed) SHARED_ADDRESS 0 shared) ∙ e in let h : dictionary_header 0 ≡ word = cc in sym h)))
+first_still : (P : ℕ) → 0 < P → (a word : ℕ) → first_roles a ≡ fixed word → stored (opening_words P) a ≡ word
+first_still P pos a word e = ⊎_elim
+    (λ (f : a ≡ 0). ap (stored (opening_words P)) f ∙ (storage_else P 0 (λ g. omega (arith, g)) ∙ (let g : fixed 0 ≡ fixed word = sym (ap first_roles f ∙ first_zero) ∙ e in let h : 0 ≡ word = cc in h)))
+    (λ (m : a ≢ 0). ⊎_elim
+    (λ (f : a ≡ SHARED_ADDRESS). ap (stored (opening_words P)) f ∙ (storage_first P pos ∙ (let g : fixed (dictionary_header 0) ≡ fixed word = sym (ap first_roles f ∙ named_first bare_roles SHARED_ADDRESS 0 shared) ∙ e in let h : dictionary_header 0 ≡ word = cc in h)))
     (λ (n : a ≢ SHARED_ADDRESS). absurd (
     let away : eqb a SHARED_ADDRESS ≡ false = ne_eqb a SHARED_ADDRESS n in
-    let rest : (if nat_lt SHARED_ADDRESS a && nat_lt a (SHARED_ADDRESS + block_size 0) then dictionary shared else unnamed) ≡ fixed word = (rw away at e) in
-    cond_both (nat_lt SHARED_ADDRESS a && nat_lt a (SHARED_ADDRESS + block_size 0)) (dictionary shared) unnamed (λ x. x ≡ fixed word → ⊥) (λ t g. (let no : dictionary shared ≡ fixed word = g in cc)) (λ t g. (let no : unnamed ≡ fixed word = g in cc)) rest)) (cases_eq a SHARED_ADDRESS)
+    let far : eqb a 0 ≡ false = ne_eqb a 0 m in
+    let rest : (if nat_lt SHARED_ADDRESS a && nat_lt a (SHARED_ADDRESS + block_size 0) then dictionary shared else unnamed) ≡ fixed word = (rw (away, far) at e) in
+    cond_both (nat_lt SHARED_ADDRESS a && nat_lt a (SHARED_ADDRESS + block_size 0)) (dictionary shared) unnamed (λ x. x ≡ fixed word → ⊥) (λ t g. (let no : dictionary shared ≡ fixed word = g in cc)) (λ t g. (let no : unnamed ≡ fixed word = g in cc)) rest)) (cases_eq a SHARED_ADDRESS)) (cases_eq a 0)
 
 first_stands : (P : ℕ) (o : ObjId) → Stands (stored (opening_words P)) first_roles o (first_cells o) (first_now o) (object_of (heap_at_start P) o)
 first_stands P o = ⊎_elim
@@ -112,7 +128,7 @@ first_stands P o = ⊎_elim
       cell = record { sid = omega arith; address = omega arith; owner = omega arith };
       structure = refl;
       owner = refl;
-      kind = record { settled = refl; capacity = omega arith; header = named_first (λ a. unnamed) SHARED_ADDRESS 0 shared; words = λ k lt le. named_words (λ a. unnamed) SHARED_ADDRESS 0 shared k lt le; properties = λ f. subst (HasProperties (λ k. stored (opening_words P) (SHARED_ADDRESS + k)) 0) (sym (all_empty P shared)) (no_properties P) };
+      kind = record { settled = refl; capacity = omega arith; header = named_first bare_roles SHARED_ADDRESS 0 shared; words = λ k lt le. named_words bare_roles SHARED_ADDRESS 0 shared k lt le; properties = λ f. subst (HasProperties (λ k. stored (opening_words P) (SHARED_ADDRESS + k)) 0) (sym (all_empty P shared)) (no_properties P) };
     })
     (λ (n : o ≢ shared). subst (λ (x : Option Cell × Now). Stands (stored (opening_words P)) first_roles o x.0 x.1 (object_of (heap_at_start P) o))
     (λ i. (sym (object_else (λ o. None) shared o (Some shared_cell) n) i, sym (object_else (λ o. unborn_now) shared o (dictionary_now 0) n) i)) (refl, all_empty P o)) (cases_object o shared)
@@ -126,7 +142,7 @@ first_born P o = ⊎_elim
 
 first_inside : (P : ℕ) → 0 < P → (a : ℕ) → first_roles a ≢ unnamed → a < MOST_STORAGE * P
 first_inside P pos a n = ⊎_elim (λ lt. omega arith)
-    (λ ge. absurd (n (named_else (λ a. unnamed) SHARED_ADDRESS 0 shared a (λ j lj e. omega arith)))) (cases_lt a SHARED_STORAGE)
+    (λ ge. absurd (n (first_else a (λ e. omega arith) (λ j lj e. omega arith)))) (cases_lt a SHARED_STORAGE)
 
 none_of : (b : Bool) → ◌≡◌ {A = ℕ} (cond {A = ℕ} b 0 0) 0
 none_of true = refl
@@ -174,7 +190,8 @@ opens P pos most =
       contents = record {
         stands = first_stands P;
         born = first_born P;
-        still = λ a word e. let t = first_still a word e in ap (stored w) t.0 ∙ (storage_first P pos ∙ sym t.1);
+        still = first_still P pos;
+        origin = first_zero;
         inside = λ a n. first_inside P pos a n;
         words = λ o. subst HasWords (sym (all_empty P o)) no_words;
         valid = valid_at_start P;
@@ -183,7 +200,7 @@ opens P pos most =
         storage = live_one (StorageIsOwn (stored w) first_roles) opening_view record {
           named = omega arith;
           used = omega arith;
-          nameless = λ k le lt. named_else (λ a. unnamed) SHARED_ADDRESS 0 shared (address_of 0 k) (λ j lj e. omega arith);
+          nameless = λ k le lt. first_else (address_of 0 k) (λ e. omega arith) (λ j lj e. omega arith);
           known = λ k le lt. storage_else P (address_of 0 k) (λ e. omega arith);
           zeros = λ k le. refl;
         };
@@ -209,7 +226,7 @@ opens P pos most =
       unmade = record {
         out = λ t le lt. (let there : ltb t P ≡ true = lt-ltb t P lt in rw there refl);
         structures = λ t k le lt lo hi. node_else P t k lo hi;
-        nameless = λ t k le lt lk. named_else (λ a. unnamed) SHARED_ADDRESS 0 shared (address_of t k) (λ j lj e. omega arith);
+        nameless = λ t k le lt lk. first_else (address_of t k) (λ e. omega arith) (λ j lj e. omega arith);
         storage = λ t k le lt lk. storage_else P (address_of t k) (λ e. omega arith);
         objects = λ t le. ap (λ (l : List Object). length l) (objects_later P t (omega arith));
       };

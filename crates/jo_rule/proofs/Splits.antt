@@ -66,9 +66,9 @@ module _ {P : ℕ} {w : Words} {views : List View} (id : ℕ) (v : View) (r : Ru
         };
       }
 
-  -- a pass takes in another that holds no lock, and is not the first one
-  pub joins : (other : ℕ) (u : View) → get_elem? views other ≡ some u → id ≢ other → u.live ≡ true → u.number ≢ 0 → u.lock ≡ None → Rule P w (set (set views id (joined v u)) other spent_view)
-  joins other u at' ne lu later none_held =
+  -- a pass takes in another that holds no lock
+  pub joins : (other : ℕ) (u : View) → get_elem? views other ≡ some u → id ≢ other → u.live ≡ true → u.lock ≡ None → Rule P w (set (set views id (joined v u)) other spent_view)
+  joins other u at' ne lu none_held =
       let both = joined v u in
       let heap = after P r.log in
       let S = StorageIsOwn (stored w) r.role in

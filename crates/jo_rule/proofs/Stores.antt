@@ -53,7 +53,7 @@ born_cell_by {A} (Some c) e f = f c refl
 module _ {P : ℕ} {w : Words} {views : List View} (id : ℕ) (v : View) (r : Rule P w views) (at : get_elem? views id ≡ some v) (l : v.live ≡ true) where
   -- a load shows the whole log, or as much of it as the pass says
   pub loads : (seen : Log Mark) (counts : Counts) → Begins seen v.past.seen → Begins r.log seen → Rule P w (set views id (looking v seen counts))
-  loads seen counts more within = looks id v (looking v seen counts) r at l (numbers_of v (looking v seen counts) refl refl refl refl) (record { calls = refl; more = more; seen = within }) refl refl refl
+  loads seen counts more within = looks id v (looking v seen counts) r at l (numbers_of v (looking v seen counts) refl refl refl refl) (record { calls = refl; more = more; seen = within }) refl refl refl refl
 
   -- what a load of the cell of an object finds that is born in what was seen: the word of a cell, which is a dictionary's
   pub finds_cell : (o : ObjId) → IsBorn (after P v.past.seen) o → (c : Cell) × IsCell c × (w (cell o) ≡ cell_bits c) × (c.kind ≡ Dictionary)
@@ -106,13 +106,13 @@ module _ {P : ℕ} {w : Words} {views : List View} (id : ℕ) (v : View) (r : Ru
       let still : changes (after P r.log) v.number call.New ≡ false = rw spent refl in
       let stays : recorded P v.number (Place call.New) r.log ≡ r.log = ap (λ (b : Bool). if b then r.log ++ change v.number call.New ∷ [] else r.log) still in
       let u = placing P v (Place call.New) r.log counts in
-      looks_event id v u r at l (numbers_of v u refl refl refl refl) (Place call.New) (λ c spent e. (let no : Place call.New ≡ Refuse c spent = e in absurd cc)) stays refl refl refl refl
+      looks_event id v u r at l (numbers_of v u refl refl refl refl) (Place call.New) (λ c spent e. (let no : Place call.New ≡ Refuse c spent = e in absurd cc)) stays refl refl refl refl refl
 
   -- a load that places a call which is refused for want of storage
   pub refuses_spent : (c : Call) (spent : Spent) (counts : Counts) → MayPlace P v (Refuse c spent) → Rule P w (set views id (placing P v (Refuse c spent) r.log counts))
   refuses_spent c spent counts may =
       let u = placing P v (Refuse c spent) r.log counts in
-      looks_event id v u r at l (numbers_of v u refl refl refl refl) (Refuse c spent) (event_refuses P v (Refuse c spent) r.log (r.histories.own id v at l) may) refl refl refl refl refl
+      looks_event id v u r at l (numbers_of v u refl refl refl refl) (Refuse c spent) (event_refuses P v (Refuse c spent) r.log (r.histories.own id v at l) may) refl refl refl refl refl refl
 
   -- a word of the own storage is stored that no cell has named
   pub fills : (k x : ℕ) (counts : Counts) → v.storage.named ≤ k → k < MOST_STORAGE → Rule P (put w (storage (address_of v.number k)) x) (set views id (filling v k x counts))
@@ -125,7 +125,7 @@ module _ {P : ℕ} {w : Words} {views : List View} (id : ℕ) (v : View) (r : Ru
       let lt = (r.histories.seated id v at l).own.1 in
       let loose : (word : ℕ) → r.role a ≢ fixed word = λ word e. (let no : unnamed ≡ fixed word = sym free ∙ e in absurd cc) in
       let no_words : (o : ObjId) → r.role a ≢ dictionary o = λ o e. (let no : unnamed ≡ dictionary o = sym free ∙ e in absurd cc) in
-      stores id v u r at l same a x (saw_same r.log v u (r.histories.seen id v at l) refl) refl
+      stores id v u r at l same a x (saw_same r.log v u (r.histories.seen id v at l) refl) refl refl
       record {
         loose = loose;
         held = λ o c e f. absurd (no_words o f);
@@ -149,7 +149,7 @@ module _ {P : ℕ} {w : Words} {views : List View} (id : ℕ) (v : View) (r : Ru
       let whose : (o : ObjId) → r.role a ≡ dictionary o → g.object ≡ o = λ o e. (let both : dictionary g.object ≡ dictionary o = sym role_is ∙ e in cc) in
       let same = numbers_of v u refl refl refl refl in
       let size = t.size kind in
-      stores id v u r at l same a x (saw_same r.log v u (r.histories.seen id v at l) refl) refl
+      stores id v u r at l same a x (saw_same r.log v u (r.histories.seen id v at l) refl) refl refl
       record {
         loose = loose;
         held = λ o c e f. let cell_is : Some g.cell ≡ Some c = sym t.cell ∙ (ap r.cell (whose o f) ∙ e) in let one : g.cell ≡ c = cc in ap (λ (y : Cell). y.locked) (sym one) ∙ t.bit;

@@ -69,7 +69,7 @@ module _ {P : ℕ} {w : Words} {views : List View} (id : ℕ) (v : View) (r : Ru
   -- a pass that holds no lock tries to take one where it expects an unlocked dictionary, and the exchange finds another word
   pub loses : (o : ObjId) (expected : Cell) (counts : Counts) → MayTry v expected → w (cell o) ≢ cell_bits expected → Rule P w (set views id (losing v o expected counts))
   loses o expected counts may other =
-      looks id v (losing v o expected counts) r at l (numbers_of v (losing v o expected counts) refl refl refl refl) (saw_same r.log v (losing v o expected counts) (r.histories.seen id v at l) refl) refl refl refl
+      looks id v (losing v o expected counts) r at l (numbers_of v (losing v o expected counts) refl refl refl refl) (saw_same r.log v (losing v o expected counts) (r.histories.seen id v at l) refl) refl refl refl refl
 
   -- what the holder of a lock knows is the object after the log
   pub holds_content : (g : Lock) → v.lock ≡ Some g → g.settled ≡ true → object_of (after P r.log) g.object ≡ g.content

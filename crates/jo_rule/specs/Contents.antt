@@ -85,11 +85,12 @@ pub record HasWords (z : Object) : Type 0 where
   pub names : All (λ p. IsNameWord p.0 × IsSlot (Holds p.1)) z.names
   pub elements : All (λ p. IsSlot (Holds p.1)) z.elements
 
--- every object, in a heap of so many passes
+-- Every object, in a heap of so many passes. Word 0 of storage is 0 for ever, so no block is there.
 pub record Contents (passes : ℕ) (s : ℕ → ℕ) (cells : ObjId → Option Cell) (role : ℕ → Role) (now : ObjId → Now) (heap : Heap) : Type 0 where
   pub stands : (o : ObjId) → Stands s role o (cells o) (now o) (object_of heap o)
   pub born : (o : ObjId) → is_born (cells o) ≡ nat_lt o.serial (length (objects_of heap o.pass))
   pub still : (a word : ℕ) → role a ≡ fixed word → s a ≡ word
+  pub origin : role 0 ≡ fixed 0
   pub inside : (a : ℕ) → role a ≢ unnamed → a < MOST_STORAGE * passes
   pub words : (o : ObjId) → HasWords (object_of heap o)
   pub valid : IsValidHeap heap
