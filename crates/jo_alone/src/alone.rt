@@ -51,7 +51,7 @@ pub fn run_alone(
     })
 }
 
-// Runs a machine to its end, and makes each call that it asks, once.
+// Runs a machine to its end. Each call that it asks goes to the heap, and the reply back to it.
 fn drive(vm: &mut Vm<'_>, heap: &mut PlainHeap) -> Result<Outcome, AllocError>
     requires free { IsFree (stands vm.old) }
     requires calls { MayGoOn (rest_of (stands vm.old)) heap.old }

@@ -1,4 +1,3 @@
 pub mod FirstLine
 pub mod Rests
 pub mod InOrder
-pub mod OnePart

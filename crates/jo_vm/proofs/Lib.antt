@@ -2,7 +2,6 @@ pub mod Reversed
 pub mod Held
 pub mod WordIds
 pub mod Adding
-pub mod Printing
 pub mod Operands
 pub mod Steps
 pub mod Truths
