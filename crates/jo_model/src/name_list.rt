@@ -59,8 +59,8 @@ impl NameList {
         &self.list
     }
 
-    // Puts a name last. There must be room.
-    pub(crate) fn push(&mut self, name: NameId)
+    /// Puts a name last. There has to be room.
+    pub fn push(&mut self, name: NameId)
         requires { length self.old < MOST_NAMES }
         ensures { self.new ≡ self.old ++ name ∷ [] }
     {
