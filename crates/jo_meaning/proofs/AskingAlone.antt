@@ -28,7 +28,7 @@ use Rattle.jo_meaning.specs.Runs.{Interaction, Ends, Asks, Takes}
 use Rattle.jo_meaning.specs.Play.{Played, play}
 use Rattle.jo_meaning.specs.Scripts.{interaction_of}
 use Rattle.jo_meaning.specs.Histories.{played_alone}
-use Rattle.jo_meaning.specs.inner.Asking.{Known, known_at_start, known_after, IsGiven, IsOfTable, HasTextOfTable, IsSoundKey, IsSoundCall, AsksSoundly, AreValidFrom}
+use Rattle.jo_meaning.specs.inner.Asking.{Known, known_at_start, known_after, IsGiven, HasText, GivesText, numbers_of, IsSoundKey, IsSoundCall, AsksSoundly, AreValidFrom}
 use Rattle.jo_meaning.proofs.HeldProperties.{HeapHolds, PutsSuch, value_holds, object_holds, holds-one, holds_at_start, as_many_passes}
 use Rattle.jo_meaning.proofs.AskingScripts.{asks_soundly}
 use Rattle.jo_meaning.proofs.SoundCalls.{valid_call}
@@ -36,7 +36,7 @@ use Rattle.jo_meaning.proofs.SoundCalls.{valid_call}
 module _ (texts : Table) where
   -- a property with a sound key, of which a text is one of the table
   abbrev pub OfTable : Key → Value → Type 0
-  OfTable key v = IsSoundKey texts key × IsOfTable texts v
+  OfTable key v = IsSoundKey (numbers_of texts) key × HasText (numbers_of texts) v
 
   -- a heap on which the pass may call
   pub record IsReady (pass : ℕ) (heap : Heap) : Type 0 where
@@ -47,7 +47,7 @@ module _ (texts : Table) where
 
   -- ---- calls
 
-  puts_of_table : (known : Known) (c : Call) → IsSoundCall texts known c → PutsSuch OfTable c
+  puts_of_table : (known : Known) (c : Call) → IsSoundCall (numbers_of texts) known c → PutsSuch OfTable c
   puts_of_table known (call.Put o key v) c_sound = (c_sound.1, c_sound.2.text)
   puts_of_table known (call.Cas o key expected desired) c_sound = (c_sound.1, c_sound.3.text)
   puts_of_table known _ c_sound = tt
@@ -56,22 +56,22 @@ module _ (texts : Table) where
 
   -- a reply of one thread has a text of the table where the heap has no other
 
-  put_of_table : (object : Object) (key : Key) (v : Value) → HasTextOfTable texts (put_in object key v).1
+  put_of_table : (object : Object) (key : Key) (v : Value) → GivesText (numbers_of texts) (put_in object key v).1
   put_of_table object key v =
-      let P : Object × Reply → Type 0 = λ edited. HasTextOfTable texts edited.1 in
+      let P : Object × Reply → Type 0 = λ edited. GivesText (numbers_of texts) edited.1 in
       cond_both (has_property object key) (with_value object key v, reply.Done)
       (if is_full_for object key then (object, reply.TooManyNames) else (with_property object key v, reply.Done)) P (λ there. tt)
       (λ lacking. cond_both (is_full_for object key) (object, reply.TooManyNames) (with_property object key v, reply.Done) P (λ full. tt) (λ room. tt))
 
-  value_of_table : (heap : Heap) (o : ObjId) (key : Key) → HeapHolds OfTable heap → IsOfTable texts (value_of (object_of heap o) key)
+  value_of_table : (heap : Heap) (o : ObjId) (key : Key) → HeapHolds OfTable heap → HasText (numbers_of texts) (value_of (object_of heap o) key)
   value_of_table heap o key h =
-      value_holds OfTable (IsOfTable texts) tt (λ key v p. p.1) (object_of heap o) key (object_holds OfTable heap o h)
+      value_holds OfTable (HasText (numbers_of texts)) tt (λ key v p. p.1) (object_of heap o) key (object_holds OfTable heap o h)
 
-  answer_of_table : (heap : Heap) (pass : ℕ) (c : Call) → HeapHolds OfTable heap → HasTextOfTable texts (one heap pass c).1
+  answer_of_table : (heap : Heap) (pass : ℕ) (c : Call) → HeapHolds OfTable heap → GivesText (numbers_of texts) (one heap pass c).1
   answer_of_table heap pass call.New h =
       cond_both {A = Heap × Reply} (nat_lt (length (objects_of heap pass)) MOST_OBJECTS)
       (with_new_object heap pass, reply.Made (record { pass = pass; serial = length (objects_of heap pass) })) (heap, reply.ObjectsSpent)
-      (λ left. HasTextOfTable texts left.1) (λ few. tt) (λ many. tt)
+      (λ left. GivesText (numbers_of texts) left.1) (λ few. tt) (λ many. tt)
   answer_of_table heap pass (call.Get o key) h = value_of_table heap o key h
   answer_of_table heap pass (call.Cas o key expected desired) h = value_of_table heap o key h
   answer_of_table heap pass (call.Put o key v) h = put_of_table (object_of heap o) key v
@@ -85,7 +85,7 @@ module _ (texts : Table) where
 
   -- ---- histories
 
-  ready-one : (known : Known) (pass : ℕ) (heap : Heap) (c : Call) → IsReady pass heap → IsSoundCall texts known c
+  ready-one : (known : Known) (pass : ℕ) (heap : Heap) (c : Call) → IsReady pass heap → IsSoundCall (numbers_of texts) known c
       → LeavesValid c (one heap pass c).0 (one heap pass c).1 → IsReady pass (one heap pass c).0
   ready-one known pass heap c ready c_sound leaves = record {
     within = omega (arith, ready.within, as_many_passes heap pass c);
@@ -96,13 +96,13 @@ module _ (texts : Table) where
 
   -- the history is valid, and its heap is one on which the pass may go on
   pub valid-play : (pass : ℕ) (t : Interaction) (known : Known) (heap : Heap) → ((o : ObjId) → known o → IsBorn heap o)
-      → IsReady pass heap → AsksSoundly texts known t → AreValidFrom heap (play pass t heap).history × IsReady pass (play pass t heap).heap
+      → IsReady pass heap → AsksSoundly (numbers_of texts) known t → AreValidFrom heap (play pass t heap).history × IsReady pass (play pass t heap).heap
   valid-play pass (Ends outcome lines) known heap born ready asks = (ready.valid, ready)
   valid-play pass (Takes rest) known heap born ready asks = valid-play pass rest known heap born ready asks
   valid-play pass (Asks c lines answered) known heap born ready asks =
       let new : Heap = (one heap pass c).0 in
       let answer : Reply = (one heap pass c).1 in
-      let c_valid : IsValidCall heap c = valid_call texts known heap born c asks.0 in
+      let c_valid : IsValidCall heap c = valid_call (numbers_of texts) known heap born c asks.0 in
       let leaves : LeavesValid c new answer = leaves_valid heap pass c ready.within ready.formed ready.valid c_valid in
       let rest : Played = play pass (answered answer) new in
       let after : AreValidFrom new rest.history × IsReady pass rest.heap =

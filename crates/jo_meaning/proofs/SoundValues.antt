@@ -25,37 +25,39 @@ use Rattle.jo_meaning.specs.State.{made_in, found_in, flag_in}
 use Rattle.jo_meaning.specs.Values.{is_zero, safe, remainder, of_numbers, on_numbers, apply, apply_unary, object_in}
 use Rattle.jo_meaning.specs.Keys.{or_outside, key_in}
 use Rattle.jo_meaning.specs.Expressions.{constant_value}
-use Rattle.jo_meaning.specs.inner.Asking.{Known, IsGiven, IsSoundKey, IsKnown, IsSoundValue, HasTextOfTable}
+use Rattle.jo_meaning.specs.inner.Asking.{Known, IsGiven, IsSoundKey, IsKnown, IsSoundValue, GivesText, Numbers}
 
 -- ---- keys
 
-key_at_sound : (texts : Table) (n : ℕ) → IfOk (or_outside (key_at n)) (IsSoundKey texts)
-key_at_sound texts n = cond_both (nat_le n MOST_INDEX) _ _ (λ r. IfOk (or_outside r) (IsSoundKey texts)) (λ e. leb-true n MOST_INDEX e) (λ e. tt)
+module _ (texts : Table) (IsText : Numbers) (covers : (n : ℕ) → n < length texts → IsText n) where
+  key_at_sound : (n : ℕ) → IfOk (or_outside (key_at n)) (IsSoundKey IsText)
+  key_at_sound n = cond_both (nat_le n MOST_INDEX) _ _ (λ r. IfOk (or_outside r) (IsSoundKey IsText)) (λ e. leb-true n MOST_INDEX e) (λ e. tt)
 
-key_of_int_sound : (texts : Table) (i : ℤ) → IfOk (or_outside (key_of_int i)) (IsSoundKey texts)
-key_of_int_sound texts (pos n) = key_at_sound texts n
-key_of_int_sound texts (negsuc n) = tt
+  key_of_int_sound : (i : ℤ) → IfOk (or_outside (key_of_int i)) (IsSoundKey IsText)
+  key_of_int_sound (pos n) = key_at_sound n
+  key_of_int_sound (negsuc n) = tt
 
-key_by_sound : (texts : Table) (id : ℕ) (index : Option ℕ) → id < length texts → IfOk (or_outside (key_by id index)) (IsSoundKey texts)
-key_by_sound texts id None there = there
-key_by_sound texts id (Some n) there = key_at_sound texts n
+  key_by_sound : (id : ℕ) (index : Option ℕ) → id < length texts → IfOk (or_outside (key_by id index)) (IsSoundKey IsText)
+  key_by_sound id None there = covers id there
+  key_by_sound id (Some n) there = key_at_sound n
 
-key_of_id_sound : (texts : Table) (id : ℕ) → IfOk (or_outside (key_of_id texts id)) (IsSoundKey texts)
-key_of_id_sound texts id =
-    let P : Option (List ℕ) → Type 0 = λ text. IfOk (or_outside (key_of_text id text)) (IsSoundKey texts) in
-    elim (slice_get_cases texts id).1 [
-      | inl there ↦ subst P (sym there.2) (key_by_sound texts id (array_index there.0) there.1)
-      | inr past ↦ subst P (sym past.1) tt
-    ]
+  key_of_id_sound : (id : ℕ) → IfOk (or_outside (key_of_id texts id)) (IsSoundKey IsText)
+  key_of_id_sound id =
+      let P : Option (List ℕ) → Type 0 = λ text. IfOk (or_outside (key_of_text id text)) (IsSoundKey IsText) in
+      elim (slice_get_cases texts id).1 [
+        | inl there ↦ subst P (sym there.2) (key_by_sound id (array_index there.0) there.1)
+        | inr past ↦ subst P (sym past.1) tt
+      ]
 
--- whatever a value is, the key that it is is sound
-pub key_sound : (texts : Table) (v : Value) → IfOk (key_in texts v) (IsSoundKey texts)
-key_sound texts (value.Int i) = key_of_int_sound texts i
-key_sound texts (value.Text t) = key_of_id_sound texts t.0
-key_sound texts value.Undefined = tt
-key_sound texts value.Null = tt
-key_sound texts (value.Bool b) = tt
-key_sound texts (value.Object o) = tt
+  -- whatever a value is, the key that it is is sound
+  pub key_sound : (v : Value) → IfOk (key_in texts v) (IsSoundKey IsText)
+  key_sound (value.Int i) = key_of_int_sound i
+  key_sound (value.Text t) = key_of_id_sound t.0
+  key_sound value.Undefined = tt
+  key_sound value.Null = tt
+  key_sound (value.Bool b) = tt
+  key_sound (value.Object o) = tt
+
 
 -- ---- numbers
 
@@ -76,9 +78,9 @@ found_known : (known : Known) (v : Value) → AreKnown known (reply.Found v) →
 found_known known (value.Object o) given = given o refl
 found_known known _ given = tt
 
-module _ (texts : Table) (known : Known) where
+module _ (texts : Table) (IsText : Numbers) (known : Known) where
   abbrev pub Sound : Value → Type 0
-  Sound = IsSoundValue texts known
+  Sound = IsSoundValue IsText known
 
   -- ---- values
 
@@ -138,7 +140,7 @@ module _ (texts : Table) (known : Known) where
 
   -- ---- replies
 
-  pub found_sound : (answer : Reply) → FitsRead answer → HasTextOfTable texts answer → AreKnown known answer → Sound (found_in answer)
+  pub found_sound : (answer : Reply) → FitsRead answer → GivesText IsText answer → AreKnown known answer → Sound (found_in answer)
   found_sound (reply.Found v) fits text given = record { range = fits; text = text; object = found_known known v given }
   found_sound _ fits text given = undefined_sound
 

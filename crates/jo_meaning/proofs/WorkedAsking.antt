@@ -14,14 +14,14 @@ use Rattle.jo_model.specs.declared.call.Reply.{Reply}
 use Rattle.jo_model.specs.declared.call.Reply.TheVariants as reply
 use Rattle.jo_model.specs.Heaps.{shared}
 use Rattle.jo_meaning.specs.Runs.{Waits}
-use Rattle.jo_meaning.specs.inner.Asking.{known_at_start, known_by, IsSoundCall, IsSoundValue, IsSoundReply, AreSoundReplies}
+use Rattle.jo_meaning.specs.inner.Asking.{known_at_start, known_by, IsSoundCall, IsSoundValue, IsSoundReply, AreSoundReplies, numbers_of}
 use Rattle.jo_meaning.proofs.Words.{texts, x, natural, text, shared_word, dot, at, shared_x, shared_y, minus, two, sum, set, add, all, with, bare, name, integer, get, put, found, running, after, fails}
 
 -- these replies are sound, and the call that waits at them is this one, and is sound for the objects that are known by then
 pub record IsAsked (script : Items) (answers : List Reply) (c : Call) : Type 0 where
-  pub replies : AreSoundReplies texts (after script answers).calls answers
+  pub replies : AreSoundReplies (numbers_of texts) (after script answers).calls answers
   pub waits : (after script answers).stand ≡ Waits c
-  pub sound : IsSoundCall texts (known_by known_at_start answers) c
+  pub sound : IsSoundCall (numbers_of texts) (known_by known_at_start answers) c
 
 -- `shared.x = e;`
 abbrev put_x : Tree → Items
@@ -220,26 +220,26 @@ a_literal_out_of_range_would_be_put = refl
 pub what_no_sound_reply_gives_would_be_put : (after (put_x shared_y) (found 9007199254740992 ∷ [])).stand ≡ Waits (put (name 0) (integer 9007199254740992))
 what_no_sound_reply_gives_would_be_put = refl
 
-pub an_object_that_no_reply_gave : IsSoundCall texts known_at_start (call.Get other (name 0)) → ⊥
+pub an_object_that_no_reply_gave : IsSoundCall (numbers_of texts) known_at_start (call.Get other (name 0)) → ⊥
 an_object_that_no_reply_gave c_sound = let same : 2 ≡ 0 = ap (λ (o : ObjId). o.serial) c_sound.0 in absurd (omega (arith, same))
 
-pub an_object_that_no_reply_gave_as_a_value : IsSoundValue texts known_at_start (value.Object other) → ⊥
+pub an_object_that_no_reply_gave_as_a_value : IsSoundValue (numbers_of texts) known_at_start (value.Object other) → ⊥
 an_object_that_no_reply_gave_as_a_value v_sound = let same : 2 ≡ 0 = ap (λ (o : ObjId). o.serial) v_sound.object in absurd (omega (arith, same))
 
-pub a_name_that_the_table_lacks : IsSoundCall texts known_at_start (get (name 12)) → ⊥
+pub a_name_that_the_table_lacks : IsSoundCall (numbers_of texts) known_at_start (get (name 12)) → ⊥
 a_name_that_the_table_lacks c_sound = absurd (omega (arith, c_sound.1))
 
-pub an_index_above_the_limit : IsSoundCall texts known_at_start (get (Index 1024)) → ⊥
+pub an_index_above_the_limit : IsSoundCall (numbers_of texts) known_at_start (get (Index 1024)) → ⊥
 an_index_above_the_limit c_sound = absurd (omega (arith, c_sound.1))
 
-pub a_number_out_of_range : IsSoundValue texts known_at_start (integer 9007199254740992) → ⊥
+pub a_number_out_of_range : IsSoundValue (numbers_of texts) known_at_start (integer 9007199254740992) → ⊥
 a_number_out_of_range v_sound = absurd (omega (arith, v_sound.range))
 
-pub a_text_of_a_value_that_the_table_lacks : IsSoundValue texts known_at_start (text_value 12) → ⊥
+pub a_text_of_a_value_that_the_table_lacks : IsSoundValue (numbers_of texts) known_at_start (text_value 12) → ⊥
 a_text_of_a_value_that_the_table_lacks v_sound = absurd (omega (arith, v_sound.text))
 
-pub a_text_of_a_reply_that_the_table_lacks : IsSoundReply texts (get (name 0)) (reply.Found (text_value 12)) → ⊥
+pub a_text_of_a_reply_that_the_table_lacks : IsSoundReply (numbers_of texts) (get (name 0)) (reply.Found (text_value 12)) → ⊥
 a_text_of_a_reply_that_the_table_lacks a_sound = absurd (omega (arith, a_sound.text))
 
-pub a_reply_of_another_kind : IsSoundReply texts (get (name 0)) (reply.Flag true) → ⊥
+pub a_reply_of_another_kind : IsSoundReply (numbers_of texts) (get (name 0)) (reply.Flag true) → ⊥
 a_reply_of_another_kind a_sound = absurd a_sound.fits

@@ -1,5 +1,5 @@
 -- When all that a script asks of the heap is sound: it names texts of its table, and objects that it was given.
-use Rattle.std.specs.Prelude.{◌≡◌, ◌⊎◌, ◌<◌, ◌≤◌, List, [], ◌∷◌, length}
+use Rattle.std.specs.Prelude.{◌≡◌, ◌⊎◌, ℕ, ◌<◌, ◌≤◌, List, [], ◌∷◌, length}
 use Rattle.jo_value.specs.declared.limits.TheConstants.{MOST_INDEX}
 use Rattle.jo_value.specs.declared.value.Key.{Key}
 use Rattle.jo_value.specs.declared.value.Key.TheVariants.{Name, Index}
@@ -50,32 +50,42 @@ IsKnown known v = Unit {0}
 
 -- ---- values, keys, calls and replies
 
-module _ (texts : Table) where
-  -- a text is one of the table
-  abbrev pub IsOfTable : Value → Type 0
-  IsOfTable (value.Text t) = t.0 < length texts
-  IsOfTable v = Unit {0}
+-- which numbers are those of texts: those of a table, or any
+abbrev pub Numbers : Type 1
+Numbers = ℕ → Type 0
 
-  -- a name is a text of the table, and an index is within the limit
+abbrev pub numbers_of : Table → Numbers
+numbers_of texts n = n < length texts
+
+abbrev pub all_numbers : Numbers
+all_numbers n = Unit {0}
+
+module _ (IsText : Numbers) where
+  -- a text has such a number
+  abbrev pub HasText : Value → Type 0
+  HasText (value.Text t) = IsText t.0
+  HasText v = Unit {0}
+
+  -- the number of a name is that of a text, and an index is within the limit
   abbrev pub IsSoundKey : Key → Type 0
-  IsSoundKey (Name name) = name.0 < length texts
+  IsSoundKey (Name name) = IsText name.0
   IsSoundKey (Index index) = index ≤ MOST_INDEX
 
-  -- a text in a reply is one of the table
-  abbrev pub HasTextOfTable : Reply → Type 0
-  HasTextOfTable (reply.Found v) = IsOfTable v
-  HasTextOfTable answer = Unit {0}
+  -- so has a text in a reply
+  abbrev pub GivesText : Reply → Type 0
+  GivesText (reply.Found v) = HasText v
+  GivesText answer = Unit {0}
 
-  -- a reply fits its call, and a text that it holds is of the table; the names in it may be any, since they are only printed
+  -- a reply fits its call, and a text that it holds has such a number; the names in it may be any, since they are only printed
   pub record IsSoundReply (call : Call) (answer : Reply) : Type 0 where
     pub fits : Fits call answer
-    pub text : HasTextOfTable answer
+    pub text : GivesText answer
 
   module _ (known : Known) where
-    -- a number is in range, a text is one of the table, and an object is known
+    -- a number is in range, a text has such a number, and an object is known
     pub record IsSoundValue (v : Value) : Type 0 where
       pub range : IsInRange v
-      pub text : IsOfTable v
+      pub text : HasText v
       pub object : IsKnown known v
 
     -- the object of a call is known, and its key and values are sound
@@ -101,6 +111,10 @@ module _ (texts : Table) where
   abbrev pub AreSoundReplies : List Call → List Reply → Type 0
   AreSoundReplies (call ∷ calls) (answer ∷ answers) = IsSoundReply call answer × AreSoundReplies calls answers
   AreSoundReplies calls answers = Unit {0}
+
+-- each call of a run is valid where the objects known by then are born, for as long as the replies fit, whatever texts they hold
+abbrev pub AsksValidly : Known → Interaction → Type 0
+AsksValidly = AsksSoundly all_numbers
 
 -- ---- histories
 
