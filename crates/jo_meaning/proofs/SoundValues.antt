@@ -58,7 +58,6 @@ module _ (texts : Table) (IsText : Numbers) (covers : (n : ℕ) → n < length t
   key_sound (value.Bool b) = tt
   key_sound (value.Object o) = tt
 
-
 -- ---- numbers
 
 abs_neg : (n : ℕ) → nat_abs (neg_ℤ (pos n)) ≡ n
