@@ -1,0 +1,5 @@
+pub mod Views
+pub mod Counting
+pub mod Holding
+pub mod Telling
+pub mod inner

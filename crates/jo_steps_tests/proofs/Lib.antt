@@ -1,0 +1,2 @@
+mod Born
+mod Shared

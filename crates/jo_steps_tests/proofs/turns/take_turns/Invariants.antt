@@ -1,0 +1,6 @@
+use Rattle.jo_steps.specs.Views.{IsPassOf}
+use Rattle.jo_steps_tests.specs.Sharing.{MayTake, Stays}
+use Rattle.jo_steps_tests.proofs.turns.take_turns.Given as goal
+
+abbrev pub invariant-loop : goal.invariant-loop
+invariant-loop g l = IsPassOf l.heap l.pass × MayTake l.heap.passes l.pass.view × Stays l.initial.pass.view l.pass.view
