@@ -1,0 +1,5 @@
+pub mod Both
+pub mod Written
+pub mod Numbered
+pub mod Begun
+pub mod Made

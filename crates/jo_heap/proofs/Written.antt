@@ -1,0 +1,165 @@
+-- What the words of an object say that stands in them.
+use Rattle.std.proofs.Common.{◌≡◌, ◌≢◌, ◌+◌, ◌*◌, ◌<◌, ◌≤◌, ℕ, zero, suc, ltb, ⊎_elim, List, [], ◌∷◌, refl, sym, subst, ap, ◌∙◌, arith, length, slice_get, Option, Some, None}
+use Rattle.std.specs.Prelude.{All, option_map}
+use Rattle.std.proofs.lemmas.Bool.{cases_lt, le-ltb}
+use Rattle.std.proofs.lemmas.List.Elements.{All-head, All-tail}
+use Rattle.jo_value.specs.declared.limits.TheConstants.{MOST_INDEX, MOST_OBJECTS}
+use Rattle.jo_value.specs.declared.value.Key.TheVariants.{Index}
+use Rattle.jo_value.specs.declared.value.NameId.{NameId}
+use Rattle.jo_value.specs.declared.value.ObjId.{ObjId}
+use Rattle.jo_value.specs.declared.value.Value.{Value}
+use Rattle.jo_value.specs.declared.words.cell.Cell.{Cell}
+use Rattle.jo_value.specs.declared.words.header.Header.{Header}
+use Rattle.jo_value.specs.declared.words.slot.Slot.TheVariants.{Holds}
+use Rattle.jo_value.specs.declared.capacities.TheConstants.{DICTIONARY_NAMES, DICTIONARY_NEED}
+use Rattle.jo_value.specs.Words.{IsCell, IsHeader, IsSlot, cell_bits, header_bits}
+use Rattle.jo_model.specs.Heaps.{IsBorn, objects_of, object_of}
+use Rattle.jo_model.specs.Objects.{Object, property, element_place}
+use Rattle.jo_rule.specs.Areas.{Words, words_of, stored}
+use Rattle.jo_rule.specs.Contents.{HasWords}
+use Rattle.jo_rule.specs.Dictionaries.{IsNameWord, slot_in, dictionary_header, HasProperties}
+use Rattle.jo_rule.specs.Ending.{HasEnded, IsWritten}
+use Rattle.jo_rule.specs.Names.{cell}
+use Rattle.jo_steps.specs.Views.{ClosedView}
+use Rattle.jo_heap.specs.Closing.{ClosedHeap, heap_left}
+use Rattle.jo_heap.specs.inner.Values.{IsWordOf}
+use Rattle.jo_heap.proofs.Both.{both_off}
+
+-- the heap that is left, by the words
+abbrev pub left_by : ClosedView → ClosedHeap
+left_by l = record { passes = l.passes; view = l.view }
+
+abbrev pub HasLeft : ClosedView → Type 0
+HasLeft l = HasEnded l.passes (words_of l.passes l.words) l.view
+
+-- each born object stands in the words
+pub written : (l : ClosedView) (c : ClosedHeap) (o : ObjId) → left_by l ≡ c → HasLeft l → IsBorn (heap_left c) o → IsWritten (words_of l.passes l.words) o (object_of (heap_left c) o)
+written l c o same h born =
+    subst (λ (x : ClosedHeap). IsBorn (heap_left x) o → IsWritten (words_of l.passes l.words) o (object_of (heap_left x) o)) same (h.objects o) born
+
+pub unwritten : (l : ClosedView) (c : ClosedHeap) (o : ObjId) → left_by l ≡ c → HasLeft l → (IsBorn (heap_left c) o → ⊥) → words_of l.passes l.words (cell o) ≡ 0
+unwritten l c o same h unborn =
+    subst (λ (x : ClosedHeap). (IsBorn (heap_left x) o → ⊥) → words_of l.passes l.words (cell o) ≡ 0) same (h.unborn o) unborn
+
+-- the word of a cell is not 0
+pub cell_there : (w : Words) (o : ObjId) (z : Object) → IsWritten w o z → w (cell o) ≢ 0
+cell_there w o z h e = let word = h.word in omega (arith, word, e)
+
+-- ---- the objects of a pass
+
+abbrev pub object : (pass serial : ℕ) → ObjId
+object pass serial = record { pass = pass; serial = serial }
+
+module _ (l : ClosedView) (c : ClosedHeap) (same : left_by l ≡ c) (h : HasLeft l) (pass : ℕ) where
+  abbrev pub cell_word : ℕ → ℕ
+  cell_word serial = words_of l.passes l.words (cell (object pass serial))
+
+  abbrev pub made : ℕ
+  made = length (objects_of (heap_left c) pass)
+
+  -- those below the first unborn one are all
+  pub all_made : (serial : ℕ) → serial ≤ made → cell_word serial ≡ 0 → serial ≡ made
+  all_made serial le e = ⊎_elim
+      (λ (lt : serial < made). absurd (cell_there (words_of l.passes l.words) (object pass serial) (object_of (heap_left c) (object pass serial)) (written l c (object pass serial) same h lt) e))
+      (λ (ge : made ≤ serial). omega arith) (cases_lt serial made)
+
+  pub one_more_made : (serial : ℕ) → serial ≤ made → cell_word serial ≢ 0 → serial + 1 ≤ made
+  one_more_made serial le n = ⊎_elim (λ (lt : serial < made). omega arith)
+      (λ (ge : made ≤ serial). absurd (n (unwritten l c (object pass serial) same h (λ born. omega (arith, born, ge))))) (cases_lt serial made)
+
+  -- no object is past the last one that has a cell
+  pub few_made : made ≤ MOST_OBJECTS
+  few_made =
+      let past : cell_word MOST_OBJECTS ≡ 0 = let e = le-ltb MOST_OBJECTS MOST_OBJECTS (omega arith) in let f = both_off (ltb pass l.passes) in rw (e, f) refl in
+      ⊎_elim (λ (lt : MOST_OBJECTS < made). let e = all_made MOST_OBJECTS (omega arith) past in omega arith)
+      (λ (ge : made ≤ MOST_OBJECTS). ge) (cases_lt MOST_OBJECTS made)
+
+-- ---- a name and its value
+
+named : (names : List (NameId × Value)) (j : ℕ) → All (λ p. IsNameWord p.0 × IsSlot (Holds p.1)) names → j < length names
+    → (name : NameId) × (v : Value) × (slice_get names j ≡ Some (name, v)) × IsNameWord name × IsSlot (Holds v)
+named [] j all lt = absurd (omega arith)
+named (p ∷ names) zero all lt =
+    let here = All-head (λ (p : NameId × Value). IsNameWord p.0 × IsSlot (Holds p.1)) p names all in (p.0, p.1, refl, here.0, here.1)
+named (p ∷ names) (suc j) all lt = named names j (All-tail (λ (p : NameId × Value). IsNameWord p.0 × IsSlot (Holds p.1)) p names all) (omega arith)
+
+-- the pair of a name, and what its two words are
+pub record HasPair (z : Object) (j first second : ℕ) : Type 0 where
+  pub name : NameId
+  pub value : Value
+  pub there : slice_get z.names j ≡ Some (name, value)
+  pub first_is : first ≡ name.0
+  pub few : IsNameWord name
+  pub second_is : IsWordOf (Some value) second
+
+pair_at : (f : ℕ → ℕ) (room : ℕ) (z : Object) (j : ℕ) → HasProperties f room z → HasWords z → j < f 1 → HasPair z j (f (2 + 2 * j)) (f (3 + 2 * j))
+pair_at f room z j p h lt =
+    let n = named z.names j h.names (let count = p.count in omega (arith, count, lt)) in
+    let words = p.names j n.0 n.1 n.2 in
+    record { name = n.0; value = n.1; there = n.2; first_is = words.0; few = n.3; second_is = record { is_slot = n.4; is_word = sym words.1 } }
+
+-- ---- the value at an index
+
+slot_at : (l : List (ℕ × Value)) (j : ℕ) → All (λ (p : ℕ × Value). IsSlot (Holds p.1)) l → IsSlot (slot_in (option_map (λ p. p.1) (slice_get l j)))
+slot_at [] j all = tt
+slot_at (p ∷ l) zero all = All-head (λ (p : ℕ × Value). IsSlot (Holds p.1)) p l all
+slot_at (p ∷ l) (suc j) all = slot_at l j (All-tail (λ (p : ℕ × Value). IsSlot (Holds p.1)) p l all)
+
+element_slot : (z : Object) (index : ℕ) → HasWords z → IsSlot (slot_in (property z (Index index)))
+element_slot z index h = slot_at z.elements (element_place z index) h.elements
+
+element_at : (f : ℕ → ℕ) (room : ℕ) (z : Object) (i : ℕ) → HasProperties f room z → HasWords z → i < room → IsWordOf (property z (Index i)) (f (DICTIONARY_NEED + i))
+element_at f room z i p h lt = record { is_slot = element_slot z i h; is_word = sym (p.elements i lt) }
+
+abbrev header_for : ℕ → Header
+header_for room = record { names = DICTIONARY_NAMES; elements = room }
+
+is_header : (room : ℕ) → room ≤ MOST_INDEX + 1 → IsHeader (header_for room)
+is_header room le = record { names = omega arith; elements = omega arith }
+
+-- ---- an object, by the cell that was found for its word
+
+-- a function that finds what has a word
+abbrev Finds : {A : Type 0} → (A → Type 0) → (A → ℕ) → ℕ → Option A → Type 0
+Finds {A} Is bits word found = (x : A) → Is x → bits x ≡ word → found ≡ Some x
+
+module _ (l : ClosedView) (c : ClosedHeap) (o : ObjId) (same : left_by l ≡ c) (left : HasLeft l) (born : IsBorn (heap_left c) o) (word : ℕ) (is : word ≡ words_of l.passes l.words (cell o)) (found : Cell) (finds : Finds IsCell cell_bits word (Some found)) where
+  abbrev z : Object
+  z = object_of (heap_left c) o
+
+  abbrev w : Words
+  w = words_of l.passes l.words
+
+  h : IsWritten w o z
+  h = written l c o same left born
+
+  at_found : found.address ≡ h.found.address
+  at_found =
+      let both : Some found ≡ Some h.found = finds h.found h.is_cell (sym (is ∙ h.word)) in
+      let one : found ≡ h.found = cc in ap (λ (x : Cell). x.address) one
+
+  -- by the words that were read: the number of names, and the two words of pair j
+  pub pair_found : (j i k count first : ℕ) → i ≡ j → k ≡ j → count ≡ stored w (found.address + 1) → first ≡ stored w (found.address + 2 + 2 * k) → i < count → HasPair z j first (stored w (found.address + 2 + 2 * k + 1))
+  pair_found j i k count first ij kj counted read lt =
+      let here : h.found.address + (2 + 2 * j) ≡ found.address + 2 + 2 * k = (let e = at_found in omega (arith, e, kj)) in
+      let next : h.found.address + (3 + 2 * j) ≡ found.address + 2 + 2 * k + 1 = (let e = at_found in omega (arith, e, kj)) in
+      let few : j < stored w (h.found.address + 1) = subst (λ (a : ℕ). j < stored w (a + 1)) at_found (omega (arith, lt, ij, counted)) in
+      let p = pair_at (λ k. stored w (h.found.address + k)) h.room z j h.properties h.words few in
+      subst (λ (a : ℕ × ℕ). HasPair z j a.0 a.1) (λ i. ((ap (stored w) here ∙ sym read) i, stored w (next i))) p
+
+  header_found : stored w found.address ≡ dictionary_header h.room
+  header_found = ap (stored w) at_found ∙ h.header
+
+  -- its header is found too
+  pub has_header : (x : Option Header) (word : ℕ) → word ≡ stored w found.address → Finds IsHeader header_bits word x → x ≢ None
+  has_header x word read has e =
+      let there : x ≡ Some (header_for h.room) = has (header_for h.room) (is_header h.room h.capacity) (sym (read ∙ header_found)) in
+      let gone : x ≡ None = e in absurd cc
+
+  pub value_found : (x : Header) (word i k : ℕ) → word ≡ stored w found.address → Finds IsHeader header_bits word (Some x) → k ≡ i → i < x.elements → IsWordOf (property z (Index i)) (stored w (found.address + DICTIONARY_NEED + k))
+  value_found x word i k read has ki lt =
+      let both : Some x ≡ Some (header_for h.room) = has (header_for h.room) (is_header h.room h.capacity) (sym (read ∙ header_found)) in
+      let one : x ≡ header_for h.room = cc in
+      let within : i < h.room = subst (λ (y : Header). i < y.elements) one lt in
+      let place : h.found.address + (DICTIONARY_NEED + i) ≡ found.address + DICTIONARY_NEED + k = (let e = at_found in omega (arith, e, ki)) in
+      subst (λ (a : ℕ). IsWordOf (property z (Index i)) (stored w a)) place (element_at (λ k. stored w (h.found.address + k)) h.room z i h.properties h.words within)
