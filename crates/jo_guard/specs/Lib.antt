@@ -1,0 +1,4 @@
+pub mod Ready
+pub mod Placing
+pub mod Guarding
+pub mod Leaving
