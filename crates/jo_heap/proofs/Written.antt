@@ -13,13 +13,15 @@ use Rattle.jo_value.specs.declared.words.header.Header.{Header}
 use Rattle.jo_value.specs.declared.words.slot.Slot.TheVariants.{Holds}
 use Rattle.jo_value.specs.declared.capacities.TheConstants.{DICTIONARY_NAMES, DICTIONARY_NEED}
 use Rattle.jo_value.specs.Words.{IsCell, IsHeader, IsSlot, cell_bits, header_bits}
-use Rattle.jo_model.specs.Heaps.{IsBorn, objects_of, object_of}
+use Rattle.jo_model.specs.Heaps.{IsBorn, objects_of, object_of, shared}
+use Rattle.jo_model.specs.Logs.{after}
 use Rattle.jo_model.specs.Objects.{Object, property, element_place}
 use Rattle.jo_rule.specs.Areas.{Words, words_of, stored}
 use Rattle.jo_rule.specs.Contents.{HasWords}
 use Rattle.jo_rule.specs.Dictionaries.{IsNameWord, slot_in, dictionary_header, HasProperties}
 use Rattle.jo_rule.specs.Ending.{HasEnded, IsWritten}
 use Rattle.jo_rule.specs.Names.{cell}
+use Rattle.jo_rule.proofs.Heaps.{born-longer, passes-after}
 use Rattle.jo_steps.specs.Views.{ClosedView}
 use Rattle.jo_heap.specs.Closing.{ClosedHeap, heap_left}
 use Rattle.jo_heap.specs.inner.Values.{IsWordOf}
@@ -44,6 +46,22 @@ unwritten l c o same h unborn =
 -- the word of a cell is not 0
 pub cell_there : (w : Words) (o : ObjId) (z : Object) → IsWritten w o z → w (cell o) ≢ 0
 cell_there w o z h e = let word = h.word in omega (arith, word, e)
+
+-- ---- the passes
+
+-- the shared object is always there, so there is a pass
+some_passes : (l : ClosedView) → HasLeft l → 0 < l.passes
+some_passes l h = ⊎_elim (λ (lt : 0 < l.passes). lt)
+    (λ (le : l.passes ≤ 0).
+    let born : IsBorn (after l.passes l.view.past.seen) shared = born-longer l.passes [] l.view.past.seen shared (omega arith) in
+    let none : words_of l.passes l.words (cell shared) ≡ 0 = let e = le-ltb 0 l.passes le in rw e refl in
+    absurd (cell_there (words_of l.passes l.words) shared (object_of (after l.passes l.view.past.seen) shared) (h.objects shared born) none))
+    (cases_lt 0 l.passes)
+
+-- each has a list of objects
+pub lists_left : (l : ClosedView) (c : ClosedHeap) → left_by l ≡ c → HasLeft l → l.passes ≡ length (heap_left c)
+lists_left l c same h =
+    subst (λ (x : ClosedHeap). l.passes ≡ length (heap_left x)) same (sym (passes-after l.passes l.view.past.seen (some_passes l h)))
 
 -- ---- the objects of a pass
 

@@ -1,5 +1,5 @@
 // A heap that was closed.
-ghost use Rattle.std.specs.Prelude.{◌≡◌, ◌<◌, Option, length, slice_get};
+ghost use Rattle.std.specs.Prelude.{◌≡◌, ◌<◌, ◌≤◌, ℕ, None, Option, length, slice_get};
 ghost use Rattle.jo_value.specs.declared.value.Key.TheVariants.{Index};
 ghost use Rattle.jo_value.specs.declared.value.Value.{Value};
 ghost use Rattle.jo_model.specs.Heaps.{IsBorn, object_of, objects_of};
@@ -48,6 +48,14 @@ pub fn close(heap: Heap, pass: Pass) -> Closed
 }
 
 impl Closed {
+    /// How many passes the heap had.
+    pub fn passes(&self) -> u8
+        ensures passes { result ≡ self.now.passes }
+        ensures left { result ≡ length (heap_left self.now) }
+    {
+        self.left.passes()
+    }
+
     /// How many objects the pass has made.
     pub fn objects(&self, pass: u8) -> u16
         requires { pass < self.now.passes }
@@ -86,6 +94,20 @@ impl Closed {
             return None;
         }
         value_of(self.left.stored(block + DICTIONARY_NEED + u32::from(at)))
+    }
+
+    /// An index from which on an object has none.
+    pub fn index_end(&self, o: ObjId) -> u16
+        requires { IsBorn (heap_left self.now) o }
+        ensures beyond { (i : ℕ) → result ≤ i → property (object_of (heap_left self.now) o) (Index i) ≡ None }
+    {
+        let Some(cell) = cell_of(self.left.cell(o)) else {
+            return 0;
+        };
+        match header_of(self.left.stored(cell.address)) {
+            Some(header) => header.elements,
+            None => 0,
+        }
     }
 }
 

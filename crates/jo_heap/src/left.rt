@@ -44,6 +44,13 @@ impl Left {
         }
     }
 
+    /// How many passes the heap had.
+    pub(crate) fn passes(&self) -> u8
+        ensures { result ≡ self.now.passes }
+    {
+        self.passes
+    }
+
     /// The word of the cell of an object; 0 for one that has none.
     pub(crate) fn cell(&self, o: ObjId) -> u64
         ensures { result ≡ words_of self.now.passes self.now.words (cell o) }

@@ -13,7 +13,7 @@ use jo_value::STAMP_WORDS;
 use std::alloc::{AllocError, Global};
 
 /// A new heap for so many scripts, and its passes: the first one, and one for each script, in order of number. The shared
-/// object is there, empty, and nothing was called. All memory of the heap is taken here.
+/// object is there, empty, and nothing was called. No later call takes memory.
 pub fn open_heap(alloc: Global, scripts: u32) -> Result<(Heap, Vec<Pass>), AllocError>
     requires { (1 ≤ scripts) × (scripts ≤ MOST_SCRIPTS) }
     ensures passes { IfOk result (λ r. r.0.passes ≡ scripts + 1) }

@@ -1,7 +1,8 @@
 // Outputs that are written to memory: whole, with each write failing in turn, and past what waits.
 use jo_io::{Failed, MemorySink, Sink};
 use jo_model::{Call, Outcome, PlainHeap};
-use jo_render::{Part, print_output};
+use jo_print::Printer;
+use jo_render::{print_heap, print_run};
 use jo_value::{InternFault, Key, NameId, ObjId, TextId, Texts, Value};
 use std::alloc::{AllocError, Global};
 use std::process::Abort;
@@ -64,11 +65,11 @@ fn heap_of(rt: &impl Abort, alloc: Global) -> Result<PlainHeap, AllocError> {
 
 // The output of two scripts, to a sink that takes a byte a call.
 fn print<K: Sink>(sink: &mut K, texts: &Texts, heap: &PlainHeap) -> Result<(), Failed> {
-    let parts = [
-        Part::new(LINES, Outcome::Done),
-        Part::new(b"", Outcome::TypeFault),
-    ];
-    print_output(sink, texts, &parts, heap)
+    let mut printer = Printer::new(sink);
+    print_run(&mut printer, 1, LINES, Outcome::Done);
+    print_run(&mut printer, 2, b"", Outcome::TypeFault);
+    print_heap(&mut printer, texts, heap);
+    printer.finish()
 }
 
 fn sink_of(alloc: Global, failing: &[u64]) -> Result<MemorySink, AllocError> {
@@ -138,12 +139,10 @@ fn long_text(alloc: Global, head: &[u8]) -> Result<Vec<u8>, AllocError> {
 // The output of one script, to a sink that takes seven bytes a call.
 fn print_one(alloc: Global, lines: &[u8], heap: &PlainHeap) -> MemorySink {
     let mut sink = MemorySink::new(Vec::new(alloc), 7, Vec::new(alloc));
-    let _ = print_output(
-        &mut sink,
-        &Texts::new(alloc),
-        &[Part::new(lines, Outcome::Done)],
-        heap,
-    );
+    let mut printer = Printer::new(&mut sink);
+    print_run(&mut printer, 1, lines, Outcome::Done);
+    print_heap(&mut printer, &Texts::new(alloc), heap);
+    let _ = printer.finish();
     sink
 }
 

@@ -20,7 +20,7 @@ series-cons false t texts = refl
 -- ---- elements in rising order
 
 -- numbers that rise go on rising after the first
-tail-rises : (n : ℕ) (ns : List ℕ) → IsStrictlyIncreasing (n ∷ ns) → IsStrictlyIncreasing ns
+pub tail-rises : (n : ℕ) (ns : List ℕ) → IsStrictlyIncreasing (n ∷ ns) → IsStrictlyIncreasing ns
 tail-rises n ns up k h =
     let step : get_or ns k 0 < get_or (n ∷ ns) (suc k + 1) 0 = up (suc k) (omega arith) in
     let same : suc k + 1 ≡ suc (k + 1) = omega arith in
@@ -29,10 +29,10 @@ tail-rises n ns up k h =
 abbrev rest_from : ℕ → List (ℕ × Value) → List (ℕ × Value)
 rest_from low elements = drop (place_from low elements) elements
 
-place-here : (low : ℕ) (x : ℕ × Value) (xs : List (ℕ × Value)) → low ≤ x.0 → place_from low (x ∷ xs) ≡ 0
+pub place-here : (low : ℕ) (x : ℕ × Value) (xs : List (ℕ × Value)) → low ≤ x.0 → place_from low (x ∷ xs) ≡ 0
 place-here low x xs le = rw (le-leb low x.0 le) refl
 
-place-later : (low : ℕ) (x : ℕ × Value) (xs : List (ℕ × Value)) → x.0 < low → place_from low (x ∷ xs) ≡ suc (place_from low xs)
+pub place-later : (low : ℕ) (x : ℕ × Value) (xs : List (ℕ × Value)) → x.0 < low → place_from low (x ∷ xs) ≡ suc (place_from low xs)
 place-later low x xs lt = rw (lt-leb low x.0 lt) (omega arith)
 
 rest-here : (low : ℕ) (x : ℕ × Value) (xs : List (ℕ × Value)) → low ≤ x.0 → rest_from low (x ∷ xs) ≡ x ∷ xs

@@ -1,8 +1,8 @@
-//! The output of a run, printed as it is made.
+//! The parts of the output of a run, printed as they are made.
 #![tactic(auto)]
 
 mod objects;
 mod print;
 
 pub use objects::Objects;
-pub use print::{Part, print_heap, print_output, print_parts, print_run};
+pub use print::{print_heap, print_run};

@@ -1,13 +1,9 @@
-// The output of a run, printed as it is made.
+// The parts of the output of a run, printed as they are made.
 mod heap;
-mod output;
-mod part;
 mod properties;
 mod quoted;
 mod run;
 mod value;
 
 pub use heap::print_heap;
-pub use output::print_output;
-pub use part::{Part, print_parts};
 pub use run::print_run;
