@@ -1,4 +1,5 @@
+pub mod Elements
 pub mod Outputs
-pub mod OneScript
 pub mod Runnable
 pub mod Worked
+pub mod Formed

@@ -1,39 +1,70 @@
--- The output of a script that ran alone.
-use Rattle.std.proofs.Common.{◌≡◌, ℕ, List, [], ◌∷◌, ◌++◌, refl, sym, ap, ◌∙◌}
+-- The output of scripts that were run, by what they left.
+use Rattle.std.proofs.Common.{◌≡◌, ◌∙◌, ℕ, suc, ◌+◌, List, [], ◌∷◌, ◌++◌, refl, sym, ap, subst, arith}
+use Rattle.std.specs.Prelude.{length, flat_map, slice_get, Some}
+use Rattle.std.specs.List.{enumerate_from}
+use Rattle.std.specs.Option.{option_map}
+use Rattle.std.proofs.lemmas.List.{length-map}
+use Rattle.std.proofs.lemmas.Option.{same_Some, slice_get-map}
 use Rattle.jo_value.specs.Texts.{Table}
 use Rattle.jo_tree.specs.Trees.{Items}
-use Rattle.jo_model.specs.declared.call.Outcome.{Outcome}
-use Rattle.jo_model.specs.Heaps.{Heap}
-use Rattle.jo_model.specs.History.{History, heap_after}
+use Rattle.jo_model.specs.History.{heap_after}
 use Rattle.jo_model.specs.Rendered.{outcome_bytes, run_bytes, heap_bytes}
-use Rattle.jo_meaning.specs.Runs.{Ended}
-use Rattle.jo_meaning.specs.Histories.{IsHistoryOf, run_in, played_alone}
-use Rattle.jo_meaning.specs.Output.{stand_bytes}
-use Rattle.jo_alone.specs.Alone.{IsRunAlone}
-use Rattle.jo_render.specs.Output.{output_bytes}
-use Rattle.jo_answer.specs.Answers.{IsOutputOf}
+use Rattle.jo_heap.specs.Closing.{heap_left, history_left}
+use Rattle.jo_meaning.specs.Runs.{Ended as Finished}
+use Rattle.jo_meaning.specs.Histories.{IsHistoryOf, run_in}
+use Rattle.jo_meaning.specs.Output.{stand_bytes, script_bytes, output}
+use Rattle.jo_run.specs.declared.set.Ended.{Ended}
+use Rattle.jo_run.specs.declared.set.EndedScript.{EndedScript}
+use Rattle.jo_run.specs.Sets.{HaveRun, outcomes_of}
+use Rattle.jo_answer.specs.Texts.{part_bytes, ended_bytes}
 
--- where the one script of a history stands
-pub stand_alone : (script : Items) (texts : Table) (turns : ℕ) (w : History) (o : Outcome) → IsHistoryOf (script ∷ []) texts turns (o ∷ []) w
-    → (run_in w 1 script texts turns).stand ≡ Ended o
-stand_alone script texts turns w o of_script =
-    let run = of_script.each 0 script refl in
-    let same : o ≡ run.0 = cc (run.1) in
-    run.2.ended ∙ ap Ended (sym same)
+-- ---- one script
 
--- the output by what it left is that of the history which one thread gives for it
-pub output_alone : (script : Items) (texts : Table) (turns : ℕ) (heap : Heap) (lines : List ℕ) (o : Outcome)
-    → IsRunAlone script texts turns heap lines o
-    → IsOutputOf script texts turns o (output_bytes texts (record { lines = lines; outcome = o } ∷ []) heap)
-output_alone script texts turns heap lines o run =
-    let w = (played_alone script texts turns).history in
-    let made = run_in w 1 script texts turns in
-    let objects = heap_bytes texts (heap_after 2 w) in
-    record {
-      of_script = run.of_script;
-      alone = run.alone;
-      written_is =
-          ap (λ h. (run_bytes 1 lines (outcome_bytes o) ++ []) ++ heap_bytes texts h) run.heap_is
-          ∙ ap (λ l. (run_bytes 1 l (outcome_bytes o) ++ []) ++ objects) run.lines_are
-          ∙ ap (λ s. (run_bytes 1 made.lines (stand_bytes s) ++ []) ++ objects) (sym (stand_alone script texts turns w o run.of_script));
-    }
+-- where a script of a set stands in the history that was left: at its outcome
+stand_left : (scripts : List Items) (texts : Table) (turns : ℕ) (ended : Ended) (k : ℕ) (script : Items) (e : EndedScript)
+    → IsHistoryOf scripts texts turns (outcomes_of ended.scripts.items) (history_left ended.closed)
+    → slice_get scripts k ≡ Some script → slice_get ended.scripts.items k ≡ Some e
+    → (run_in (history_left ended.closed) (k + 1) script texts turns).stand ≡ Finished e.outcome
+stand_left scripts texts turns ended k script e of_scripts there left =
+    let run = of_scripts.each k script there in
+    let outcome : Some run.0 ≡ Some e.outcome =
+    sym run.1 ∙ slice_get-map (λ x. x.outcome) ended.scripts.items k ∙ ap (option_map (λ x. x.outcome)) left in
+    run.2.ended ∙ ap Finished (same_Some _ _ outcome)
+
+-- its part by what it left is that by what it does in the history
+part_left : (scripts : List Items) (texts : Table) (turns : ℕ) (ended : Ended) → HaveRun scripts texts turns ended.scripts.items ended.closed
+    → (k : ℕ) (script : Items) (e : EndedScript) → slice_get scripts k ≡ Some script → slice_get ended.scripts.items k ≡ Some e
+    → part_bytes (k + 1, e) ≡ script_bytes texts turns (history_left ended.closed) (k + 1, script)
+part_left scripts texts turns ended run k script e there left =
+    let made = run_in (history_left ended.closed) (k + 1) script texts turns in
+    ap (λ l. run_bytes (k + 1) l (outcome_bytes e.outcome)) (run.lines k script e there left)
+    ∙ ap (λ s. run_bytes (k + 1) made.lines (stand_bytes s)) (sym (stand_left scripts texts turns ended k script e run.history there left))
+
+-- ---- all scripts
+
+-- two lists of which the same is made place by place, where places are numbered from n
+pub same_parts : {X Y A : Type 0} (f : ℕ × X → List A) (g : ℕ × Y → List A) (xs : List X) (ys : List Y) (n : ℕ) → length xs ≡ length ys
+    → ((k : ℕ) (x : X) (y : Y) → slice_get xs k ≡ Some x → slice_get ys k ≡ Some y → f (k + n, x) ≡ g (k + n, y))
+    → flat_map f (enumerate_from n xs) ≡ flat_map g (enumerate_from n ys)
+same_parts f g [] [] n long same = refl
+same_parts f g [] (y ∷ ys) n long same = absurd (omega (arith, long))
+same_parts f g (x ∷ xs) [] n long same = absurd (omega (arith, long))
+same_parts f g (x ∷ xs) (y ∷ ys) n long same =
+    let rest = same_parts f g xs ys (n + 1) (omega (arith, long)) (λ k a b at_xs at_ys.
+    let next : suc k + n ≡ k + (n + 1) = omega arith in
+    subst (λ m. f (m, a) ≡ g (m, b)) next (same (suc k) a b at_xs at_ys)) in
+    let start : 0 + n ≡ n = omega arith in
+    let first = subst (λ m. f (m, x) ≡ g (m, y)) start (same 0 x y refl refl) in
+    ap (λ l. l ++ flat_map f (enumerate_from (n + 1) xs)) first ∙ ap (λ l. g (n, y) ++ l) rest
+
+-- the output by what scripts left is that of the history of all their calls
+pub output_left : (scripts : List Items) (texts : Table) (turns : ℕ) (ended : Ended) → HaveRun scripts texts turns ended.scripts.items ended.closed
+    → ended_bytes texts ended ≡ output texts turns (history_left ended.closed) scripts
+output_left scripts texts turns ended run =
+    let w = history_left ended.closed in
+    let long : length ended.scripts.items ≡ length scripts = sym (length-map ended.scripts.items (λ e. e.outcome)) ∙ run.history.as_many in
+    let parts = same_parts part_bytes (script_bytes texts turns w) ended.scripts.items scripts 1 long
+    (λ k e script left there. part_left scripts texts turns ended run k script e there left) in
+    let left : heap_left ended.closed ≡ heap_after (length scripts + 1) w = sym (subst (λ (n : ℕ). heap_after n w ≡ heap_left ended.closed) run.passes run.one.leaves) in
+    ap (λ p. p ++ heap_bytes texts (heap_left ended.closed)) parts
+    ∙ ap (λ h. flat_map (script_bytes texts turns w) (enumerate_from 1 scripts) ++ heap_bytes texts h) left

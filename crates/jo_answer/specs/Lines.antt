@@ -34,10 +34,6 @@ abbrev pub refusal_line : Refusal → List ℕ
 refusal_line refusal =
     codes "refused " ++ decimal (kind_code refusal.kind) ++ codes " " ++ kind_name refusal.kind ++ codes " at " ++ decimal refusal.place ++ codes "\n"
 
--- the line for an accepted set that uses what is not built yet
-abbrev pub not_built_line : List ℕ
-not_built_line = codes "refused 11 NotBuilt at 0\n"
-
 -- the line for an input of too many bytes
 abbrev pub size_line : List ℕ
 size_line = codes "refused: input over 1048576 bytes\n"

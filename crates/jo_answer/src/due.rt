@@ -3,25 +3,27 @@ ghost use Rattle.std.specs.Prelude.{◌≡◌, ◌≤◌, length, List, ℕ, IfO
 ghost use Rattle.jo_value.specs.declared.limits.TheConstants.{MOST_INPUT};
 ghost use Rattle.jo_parse.specs.Parsed.{trees_of};
 ghost use Rattle.jo_grammar.specs.Sets.{IsAcceptedSet};
-ghost use Rattle.jo_answer.specs.Answers.{verdict_of, IsDue};
-ghost use Rattle.jo_answer.specs.Texts.{text_of};
+ghost use Rattle.jo_answer.specs.Answers.{IsDue, IsVerdictOf};
+ghost use Rattle.jo_answer.specs.Texts.{IsPrintable, ended_of, text_of};
 
-use crate::lines::{NOT_BUILT_LINE, SIZE_LINE, refusal_line};
+use crate::lines::{SIZE_LINE, refusal_line};
 use crate::text::Due;
-use jo_alone::run_alone;
 use jo_model::Outcome;
 use jo_parse::{ParseFault, ScriptSet, parse_set};
+use jo_run::{EndedScript, Gate, run_set};
 use jo_value::MOST_INPUT;
 use std::alloc::{AllocError, Global};
+use std::sync::Wait;
+use std::thread::Threads;
 
 /// What is said of an input.
 #[derive(Clone, Copy, Debug, PartialEq, Eq)]
 pub enum Verdict {
-    /// Its script was run, and is done.
+    /// Its scripts were run, and all are done.
     Done,
-    /// Its script was run, and ended by a fault.
+    /// Its scripts were run, and some ended by a fault.
     EndedWithFaults,
-    /// It is no accepted set, or uses what is not built yet.
+    /// It is no accepted set.
     Refused,
     /// It has too many bytes.
     TooLarge,
@@ -34,17 +36,28 @@ pub struct Answer {
     pub due: Due,
 }
 
-/// The answer to an input, of which a byte more than the most may be given. Its script has so many turns.
-pub fn answer_to(alloc: Global, bytes: &[u8], turns: u32) -> Result<Answer, AllocError>
+/// The answer to an input, which may be a byte longer than an input may be. An accepted set is run, each script in a thread of its
+/// own, with so many turns, and with this gate before its calls. Once a script runs no memory is wanted.
+pub fn answer_to<R: Threads + Wait + Sync, G: Gate>(
+    rt: &R,
+    alloc: Global,
+    bytes: &[u8],
+    turns: u32,
+    gate: &G,
+) -> Result<Answer, AllocError>
     ensures whole { IfOk result (λ answer. (answer.verdict ≡ Verdict.TooLarge → ⊥) → length bytes.now ≤ MOST_INPUT) }
-    ensures due { IfOk result (λ answer. IsDue answer.verdict turns bytes.now (text_of answer.due)) }
+    ensures due { IfOk result (λ answer. IsDue answer.verdict turns bytes.now (ended_of answer.due) (text_of answer.due)) }
+    ensures printable { IfOk result (λ answer. IsPrintable answer.due) }
 {
     if bytes.len() > MOST_INPUT {
-        return line(alloc, Verdict::TooLarge, SIZE_LINE);
+        return Ok(Answer {
+            verdict: Verdict::TooLarge,
+            due: Due::Line(SIZE_LINE.to_vec(alloc)?),
+        });
     }
     match parse_set(alloc, bytes) {
         Ok(set) => {
-            let answer = answer_to_set(alloc, set, turns)?;
+            let answer = answer_to_set(rt, alloc, set, turns, gate)?;
             Ok(answer)
         }
         Err(ParseFault::Refused(refusal)) => Ok(Answer {
@@ -55,44 +68,32 @@ pub fn answer_to(alloc: Global, bytes: &[u8], turns: u32) -> Result<Answer, Allo
     }
 }
 
-// A line and nothing else.
-fn line(alloc: Global, verdict: Verdict, line: &[u8]) -> Result<Answer, AllocError>
-    ensures verdict { IfOk result (λ answer. answer.verdict ≡ verdict) }
-    ensures text { IfOk result (λ answer. text_of answer.due ≡ line.now) }
-{
-    Ok(Answer {
-        verdict,
-        due: Due::Line(line.to_vec(alloc)?),
-    })
-}
-
 // The answer to an accepted set.
-fn answer_to_set(alloc: Global, set: ScriptSet, turns: u32) -> Result<Answer, AllocError>
-    ensures { IfOk result (λ answer. (bytes : List ℕ) → IsAcceptedSet bytes (trees_of set) set.1
-        → IsDue answer.verdict turns bytes (text_of answer.due)) }
+fn answer_to_set<R: Threads + Wait + Sync, G: Gate>(
+    rt: &R,
+    alloc: Global,
+    set: ScriptSet,
+    turns: u32,
+    gate: &G,
+) -> Result<Answer, AllocError>
+    ensures due { IfOk result (λ answer. (bytes : List ℕ) → IsAcceptedSet bytes (trees_of set) set.1
+        → IsDue answer.verdict turns bytes (ended_of answer.due) (text_of answer.due)) }
+    ensures printable { IfOk result (λ answer. IsPrintable answer.due) }
 {
-    if set.len() > 1 {
-        return line(alloc, Verdict::Refused, NOT_BUILT_LINE);
-    }
-    let ran = run_alone(alloc, set.script(0), set.texts(), turns)?;
+    let ended = run_set(rt, alloc, &set, turns, gate)?;
     Ok(Answer {
-        verdict: verdict_of(ran.outcome),
-        due: Due::Output { set, ran },
+        verdict: verdict_of(&ended.scripts),
+        due: Due::Output { set, ended },
     })
 }
 
-fn verdict_of(outcome: Outcome) -> Verdict
-    ensures { result ≡ verdict_of outcome }
+// What is said of scripts that were run.
+fn verdict_of(scripts: &[EndedScript]) -> Verdict
+    ensures { IsVerdictOf result scripts.now }
 {
-    match outcome {
-        Outcome::Done => Verdict::Done,
-        Outcome::TypeFault
-        | Outcome::NotSafe
-        | Outcome::KeyOutside
-        | Outcome::TurnsSpent
-        | Outcome::OutputFull
-        | Outcome::TooManyNames
-        | Outcome::ObjectsSpent
-        | Outcome::Spent => Verdict::EndedWithFaults,
+    if scripts.iter().all(|script| script.outcome == Outcome::Done) {
+        Verdict::Done
+    } else {
+        Verdict::EndedWithFaults
     }
 }

@@ -1,9 +1,10 @@
-//! What is due for an input: the output of its script, or a line that says why it is not run.
+//! What is due for an input: the output of its scripts, or a line that says why it is not run.
 #![tactic(auto)]
 
 mod due;
+mod left;
 mod lines;
 mod text;
 
 pub use due::{Answer, Verdict, answer_to};
-pub use text::Due;
+pub use text::{Due, Written};

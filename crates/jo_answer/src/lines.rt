@@ -5,9 +5,6 @@ ghost use Rattle.jo_answer.specs.Lines as spec;
 use jo_parse::{Refusal, RefusalKind};
 use std::alloc::{AllocError, Global};
 
-/// The line for an accepted set that uses what is not built yet.
-pub(crate) const NOT_BUILT_LINE: &[u8] = b"refused 11 NotBuilt at 0\n";
-
 /// The line for an input of too many bytes.
 pub(crate) const SIZE_LINE: &[u8] = b"refused: input over 1048576 bytes\n";
 

@@ -3,8 +3,8 @@ ghost use Rattle.jo_model.specs.Valid.{IsValidKey};
 ghost use Rattle.jo_guard.specs.Ready.{IsReady};
 ghost use Rattle.jo_calls_tests.specs.Working.{IsCallFor, IsPlain, MayCall, Stays};
 
-use crate::replies::answer;
 use jo_model::{Call, Reply};
+use jo_run::make_call;
 use jo_steps::{Heap, Pass};
 use jo_value::{Key, MOST_INDEX, NameId, ObjId, Value};
 use jo_write::new_object;
@@ -134,7 +134,7 @@ pub(crate) fn call<R: Abort + Wait>(
     ensures stays { Stays pass.old.view pass.new.view }
 {
     let call = ask.on(rt, o);
-    answer(rt, heap, pass, call)
+    make_call(rt, heap, pass, call)
 }
 
 /// Makes these calls, and compares their replies.

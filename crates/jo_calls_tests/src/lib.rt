@@ -10,6 +10,4 @@ mod ends;
 #[cfg(test)]
 mod held;
 #[cfg(test)]
-mod replies;
-#[cfg(test)]
 mod side_by_side;

@@ -1,4 +1,5 @@
 pub mod Turns
+pub mod Statuses
 pub mod Inputs
 pub mod Written
 pub mod Worked

@@ -9,4 +9,4 @@ mod words;
 
 pub use process::start;
 pub use status::Status;
-pub use top::run;
+pub use top::{Kept, run};

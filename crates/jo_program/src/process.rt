@@ -3,6 +3,7 @@ ghost use Rattle.std.specs.Prelude.{◌≡◌, drop};
 
 use crate::{Status, run};
 use jo_io::{StdSink, StdSource};
+use jo_run::OpenGate;
 use std::alloc::AllocError;
 use std::io::ErrorKind;
 use std::process::ExitCode;
@@ -15,13 +16,17 @@ use std::{env, io};
 /// output, and gives the exit code.
 pub fn start<R: AllocGlobal + Env + Input + Print + Threads + Wait + Sync>(rt: &R) -> ExitCode {
     let status = match arguments(rt) {
-        Ok(arguments) => run(
-            rt,
-            rt.alloc(),
-            words_of(&arguments),
-            &mut StdSource::new(rt.reader()),
-            &mut StdSink::new(io::writer(rt)),
-        ),
+        Ok(arguments) => {
+            let kept = run(
+                rt,
+                rt.alloc(),
+                words_of(&arguments),
+                &mut StdSource::new(rt.reader()),
+                &mut StdSink::new(io::writer(rt)),
+                &OpenGate,
+            );
+            kept.status
+        }
         Err(AllocError) => Status::Memory,
     };
     status.exit_code()

@@ -7,11 +7,11 @@ use std::process::ExitCode;
 /// How a run ended.
 #[derive(Clone, Copy, Debug, PartialEq)]
 pub enum Status {
-    /// The script is done: the output was written.
+    /// All scripts are done: the output was written.
     Done,
     /// The words are no command line of the program: the usage line was written.
     Usage,
-    /// The input is no accepted set, or uses what is not built yet: the refusal line was written.
+    /// The input is no accepted set: the refusal line was written.
     Refused,
     /// The input has too many bytes: the size line was written.
     TooLarge,
@@ -19,7 +19,7 @@ pub enum Status {
     ReadFault,
     /// A write failed: the beginning of the output was written, and not all of it.
     WriteFault,
-    /// The script ended by a fault: the output was written.
+    /// A script ended by a fault: the output was written.
     EndedWithFaults,
     /// No memory was left: nothing was written.
     Memory,

@@ -4,12 +4,10 @@ use jo_program::Status;
 use std::alloc::{AllocError, Global};
 use std::test::Fail;
 
-const NOT_BUILT: &[u8] = b"refused 11 NotBuilt at 0\n";
-
 const DEEP: &[u8] = b"(((((((((((((((((((((((((((((((((((((((((((((((((((((((((((((((((";
 
 // Inputs that are refused, and the line that says for what and where.
-const REFUSED: [(&[u8], &[u8]); 20] = [
+const REFUSED: [(&[u8], &[u8]); 16] = [
     (b"shared.a = \xff", b"refused 1 NotUtf8 at 11\n"),
     (b"let a = \"\xff", b"refused 1 NotUtf8 at 9\n"),
     (b"shared.x = 1.5;", b"refused 2 BadToken at 11\n"),
@@ -35,10 +33,6 @@ const REFUSED: [(&[u8], &[u8]); 20] = [
     ),
     (b"", b"refused 10 NoScript at 0\n"),
     (b"// nothing", b"refused 10 NoScript at 0\n"),
-    (b"shared.p = 1;\n%%\nshared.q = 2;", NOT_BUILT),
-    (b"%%\n", NOT_BUILT),
-    (b"print(1);\r\n%%\r\n", NOT_BUILT),
-    (b"%%\n%%\n%%\n%%\n%%\n%%\n%%\n", NOT_BUILT),
 ];
 
 #[test]

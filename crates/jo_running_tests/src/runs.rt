@@ -1,6 +1,7 @@
 // Whole runs over memory, one byte a call, in which no call is made that is not needed.
 use jo_io::{MemorySink, MemorySource};
 use jo_program::{Status, run};
+use jo_run::OpenGate;
 use std::alloc::{AllocError, Global};
 use std::process::Abort;
 use std::sync::Wait;
@@ -8,8 +9,8 @@ use std::thread::Threads;
 
 pub const RUN: &[&str] = &["run"];
 
-/// What is run, which read and which write fail, and what comes of it. Where none is said it is the
-/// first one that is not needed.
+/// What is run, which read and which write fail, and what comes of it: the status, whether scripts ran, and
+/// the output. Where no read or write is said it is the first one that is not needed.
 #[derive(Clone, Copy)]
 pub struct Row<'a> {
     pub words: &'a [&'a str],
@@ -17,6 +18,7 @@ pub struct Row<'a> {
     pub read: Option<usize>,
     pub write: Option<usize>,
     pub status: Status,
+    pub ran: bool,
     pub output: &'a [u8],
 }
 
@@ -28,6 +30,7 @@ pub fn fine<'a>(input: &'a [u8], status: Status, output: &'a [u8]) -> Row<'a> {
         read: None,
         write: None,
         status,
+        ran: matches!(status, Status::Done | Status::EndedWithFaults),
         output,
     }
 }
@@ -61,7 +64,8 @@ pub fn check<R: Abort + Threads + Wait + Sync>(
     let words = words_of(alloc, row.words)?;
     let mut source = source_of(alloc, row)?;
     let mut sink = sink_of(alloc, row)?;
-    assert_eq!(rt; run(rt, alloc, &words, &mut source, &mut sink), row.status);
+    let kept = run(rt, alloc, &words, &mut source, &mut sink, &OpenGate);
+    assert_eq!(rt; (kept.status, kept.ended.is_some()), (row.status, row.ran));
     assert_eq!(rt; sink.bytes(), row.output);
     Ok(())
 }

@@ -6,7 +6,7 @@ use std::test::Fail;
 // A script and what is written for it.
 type Script = (&'static [u8], &'static [u8]);
 
-const DONE: [Script; 19] = [
+const DONE: [Script; 22] = [
     (
         b"shared.x = 1; shared.y = 2; print(shared.x, shared.z);",
         b"1| 1 undefined\n1= done\n#0.0 {\"x\": 1, \"y\": 2}\n",
@@ -73,6 +73,12 @@ const DONE: [Script; 19] = [
     (
         b"print(shared.if, shared.class); shared.x = 1; shared.x = (2);",
         b"1| undefined undefined\n1= done\n#0.0 {\"x\": 2}\n",
+    ),
+    (b"%%\n", b"1= done\n2= done\n#0.0 {}\n"),
+    (b"print(1);\r\n%%\r\n", b"1| 1\n1= done\n2= done\n#0.0 {}\n"),
+    (
+        b"let o = {p: 1};\n%%\nprint(shared.p);\n%%\nshared.q = 2;",
+        b"1= done\n2| undefined\n2= done\n3= done\n#0.0 {\"q\": 2}\n#1.0 {\"p\": 1}\n",
     ),
 ];
 

@@ -1,5 +1,5 @@
 // Command lines, and the faults of reading and writing.
-use crate::runs::{RUN, Row, check};
+use crate::runs::{Row, check, fine};
 use jo_program::Status;
 use std::test::Fail;
 
@@ -38,6 +38,7 @@ fn other_words_are_answered_by_the_usage_line(rt: HostRuntime) -> Result<(), Fai
             read: Some(1),
             write: None,
             status: Status::Usage,
+            ran: false,
             output: USAGE,
         };
         check(&rt, rt.alloc(), row)?;
@@ -84,6 +85,7 @@ fn the_words_give_the_turns(rt: HostRuntime) -> Result<(), Fail> {
             read: None,
             write: None,
             status,
+            ran: true,
             output,
         };
         check(&rt, rt.alloc(), row)?;
@@ -91,26 +93,38 @@ fn the_words_give_the_turns(rt: HostRuntime) -> Result<(), Fail> {
     Ok(())
 }
 
-// Reads and writes that fail: the input, which of them, and what is written.
-const FAULTS: [(&[u8], Option<usize>, Option<usize>, Status, &[u8]); 6] = [
-    (SCRIPT, Some(2), Some(1), Status::ReadFault, b""),
-    (SCRIPT, Some(55), None, Status::ReadFault, b""),
-    (SCRIPT, None, Some(1), Status::WriteFault, b""),
-    (SCRIPT, None, Some(3), Status::WriteFault, b"1|"),
-    (b"let a", None, Some(9), Status::WriteFault, b"refused "),
-    (COUNTED, None, Some(6), Status::WriteFault, b"1= Tu"),
+// Reads that fail, and the write that is not to be made.
+const READS: [(usize, Option<usize>); 2] = [(2, Some(1)), (55, None)];
+
+#[test]
+fn a_failed_read_is_answered_at_once(rt: HostRuntime) -> Result<(), Fail> {
+    for (read, write) in READS {
+        let row = Row {
+            read: Some(read),
+            write,
+            ..fine(SCRIPT, Status::ReadFault, b"")
+        };
+        check(&rt, rt.alloc(), row)?;
+    }
+    Ok(())
+}
+
+// Writes that fail: the input, which of them, whether scripts ran, and what is written.
+const WRITES: [(&[u8], usize, bool, &[u8]); 5] = [
+    (SCRIPT, 1, true, b""),
+    (SCRIPT, 3, true, b"1|"),
+    (b"let a", 9, false, b"refused "),
+    (b"shared.x.y = 1;", 6, true, b"1= Ty"),
+    (b"print(1);\n%%\nprint(2);", 15, true, b"1| 1\n1= done\n2"),
 ];
 
 #[test]
-fn faults_are_answered_where_they_come(rt: HostRuntime) -> Result<(), Fail> {
-    for (input, read, write, status, output) in FAULTS {
+fn a_failed_write_leaves_what_ran(rt: HostRuntime) -> Result<(), Fail> {
+    for (input, write, ran, output) in WRITES {
         let row = Row {
-            words: RUN,
-            input,
-            read,
-            write,
-            status,
-            output,
+            write: Some(write),
+            ran,
+            ..fine(input, Status::WriteFault, output)
         };
         check(&rt, rt.alloc(), row)?;
     }
@@ -125,6 +139,7 @@ fn a_usage_line_that_is_not_written_is_a_fault(rt: HostRuntime) -> Result<(), Fa
         read: Some(1),
         write: Some(4),
         status: Status::WriteFault,
+        ran: false,
         output: b"usa",
     };
     check(&rt, rt.alloc(), row)?;

@@ -1,21 +1,35 @@
-use Rattle.std.proofs.Common.{◌≡◌, [], ◌∷◌, length, sym, subst, arith}
+use Rattle.std.proofs.Common.{◌≡◌, ◌∙◌, ◌≤◌, length, sym, ap, arith}
 use Rattle.std.proofs.lemmas.List.{length-map}
+use Rattle.jo_value.specs.declared.limits.TheConstants.{MOST_SCRIPTS}
 use Rattle.jo_tree.specs.ScriptViews.{script_tree}
-use Rattle.jo_parse.specs.Parsed.{trees_of}
-use Rattle.jo_render.specs.Output.{output_bytes}
-use Rattle.jo_answer.specs.Answers.{IsDue}
-use Rattle.jo_answer.proofs.OneScript.{due_of_one}
-use Rattle.jo_answer.proofs.Outputs.{output_alone}
+use Rattle.jo_parse.specs.Parsed.{Parsed, trees_of}
+use Rattle.jo_answer.specs.Answers.{IsRun}
+use Rattle.jo_answer.specs.Texts.{ended_bytes}
+use Rattle.jo_answer.proofs.Formed.{formed_left}
+use Rattle.jo_answer.proofs.Outputs.{output_left}
+use Rattle.jo_answer.proofs.Runnable.{due_of_run}
 use Rattle.jo_answer.proofs.due.answer_to_set.Goals as goal
 
-pub returns : goal.returns
-returns c = λ bytes accepted.
+pub returns-clause-due : goal.returns-clause-due
+returns-clause-due g c = λ bytes accepted.
     let set = c.args.set in
-    let ran = c.in_ok-ran.ran in
-    let count = length-map set.0 script_tree in
-    let long : length (trees_of set) ≡ 1 = omega (arith, count, c.len.ensures.len, c.len.ensures.bounds.0, c.if-len-gt1.false) in
-    let tree = script_tree c.script.result.now in
-    let output = output_alone tree set.1 c.args.turns ran.heap ran.lines.items ran.outcome (rw c.texts.ensures at c.in_ok-ran.ensures.run) in
-    let text = output_bytes set.1 (record { lines = ran.lines.items; outcome = ran.outcome } ∷ []) ran.heap in
-    subst (λ v. IsDue v c.args.turns bytes text) (sym c.verdict_of.ensures)
-    (due_of_one (trees_of set) set.1 tree c.args.turns ran.outcome text bytes long c.script.ensures.tree output accepted)
+    let ended = c.in_ok-ended.ended in
+    let scripts = trees_of set in
+    let run : IsRun c.args.turns ended bytes (ended_bytes set.1 ended) = record {
+      scripts = scripts;
+      texts = set.1;
+      set = accepted;
+      run = c.in_ok-ended.ensures;
+      output_is = output_left scripts set.1 c.args.turns ended c.in_ok-ended.ensures;
+    } in
+    due_of_run c.verdict_of.result c.args.turns bytes (ended_bytes set.1 ended) ended (rw (← c.deref.ensures.value) c.verdict_of.ensures) run
+
+pub returns-clause-printable : goal.returns-clause-printable
+returns-clause-printable g c =
+    let ended = c.in_ok-ended.ended in
+    let long : length ended.scripts.items ≡ length (trees_of c.args.set) =
+    sym (length-map ended.scripts.items (λ e. e.outcome)) ∙ c.in_ok-ended.ensures.history.as_many in
+    let count = length-map c.args.set.0 script_tree in
+    let seen = ap (λ (s : Parsed). length s.0) c.set.view_is in
+    let few : length ended.scripts.items ≤ MOST_SCRIPTS = omega (arith, long, count, seen, c.set.invariant.1) in
+    (few, formed_left ended.closed)

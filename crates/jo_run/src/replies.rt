@@ -1,4 +1,4 @@
-// The replies of the shared heap.
+// A call on the shared heap, as scripts make it.
 ghost use Rattle.std.specs.Prelude.{◌≡◌};
 ghost use Rattle.jo_model.specs.Logs.{after};
 ghost use Rattle.jo_model.specs.Valid.{IsValidCall};
@@ -13,8 +13,8 @@ use jo_value::ObjId;
 use jo_write::{NewFault, PutFault, cas, delete, new_object, put};
 use std::sync::Wait;
 
-/// Makes a call on the heap.
-pub(crate) fn answer<R: Wait>(rt: &R, heap: &Heap, pass: &mut Pass, call: Call) -> Reply
+/// Makes a call on the heap, with a pass that is ready for calls. The answer is the reply to it.
+pub fn make_call<R: Wait>(rt: &R, heap: &Heap, pass: &mut Pass, call: Call) -> Reply
     requires ready { IsReady heap.now pass.old }
     requires valid { IsValidCall (after heap.now.passes pass.old.view.past.seen) call }
     ensures ready { IsReady heap.now pass.new }

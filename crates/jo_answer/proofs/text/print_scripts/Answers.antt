@@ -1,0 +1,15 @@
+use Rattle.std.proofs.Common.{◌+◌}
+use Rattle.jo_print.proofs.Printed.{leaves-start, leaves-more}
+use Rattle.jo_render.proofs.Rests.{numbered-rest}
+use Rattle.jo_answer.specs.Texts.{part_bytes}
+use Rattle.jo_answer.proofs.text.print_scripts.Goals as goal
+
+pub loop-before-init : goal.loop-before-init
+loop-before-init g c = leaves-start _ _
+
+pub loop-before-preserved : goal.loop-before-preserved
+loop-before-preserved g c =
+    let before = c.loop-before.before in
+    let read = c.index-scripts-before in
+    let printed = rw c.deref.ensures.value at c.print_run.ensures in
+    leaves-more _ c.loop-before.invariant printed (numbered-rest part_bytes c.args.scripts.now (before + 1) before read.result read.result c.loop-before-test.true read.is)

@@ -1,0 +1,10 @@
+use Rattle.std.proofs.Common.{◌+◌, drop}
+use Rattle.std.specs.List.{enumerate_from, flat_map}
+use Rattle.jo_print.proofs.Printed.{Leaves}
+use Rattle.jo_answer.specs.Texts.{part_bytes}
+use Rattle.jo_answer.proofs.text.print_scripts.Given as goal
+
+abbrev pub invariant-loop-before : goal.invariant-loop-before
+invariant-loop-before g l =
+    Leaves g.K.Sink.held g.K.Sink.faults l.initial.printer l.printer
+    (flat_map part_bytes (enumerate_from (l.before + 1) (drop l.before l.scripts))) (flat_map part_bytes (enumerate_from 1 l.scripts))

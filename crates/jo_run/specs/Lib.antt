@@ -1,0 +1,3 @@
+pub mod Scripts
+pub mod Sets
+pub mod inner

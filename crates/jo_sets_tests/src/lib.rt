@@ -1,0 +1,19 @@
+//! Tests of sets of several scripts, apart, so that each crate is proved once.
+#![tactic(auto)]
+
+#[cfg(test)]
+mod apart;
+#[cfg(test)]
+mod counters;
+#[cfg(test)]
+mod ends;
+#[cfg(test)]
+mod jobs;
+#[cfg(test)]
+mod meetings;
+#[cfg(test)]
+mod races;
+#[cfg(test)]
+mod runs;
+#[cfg(test)]
+mod slow;
