@@ -1,3 +1,0 @@
-shared.x = 1;
-%%
-print(shared.x);
