@@ -1,5 +1,5 @@
--- The output of scripts that were run, by what they left.
-use Rattle.std.proofs.Common.{◌≡◌, ◌∙◌, ℕ, suc, ◌+◌, List, [], ◌∷◌, ◌++◌, refl, sym, ap, subst, arith}
+-- What is written of scripts that were run, by what they left.
+use Rattle.std.proofs.Common.{◌≡◌, ◌∙◌, ℕ, suc, ◌+◌, Bool, true, false, List, [], ◌∷◌, ◌++◌, refl, sym, ap, subst, arith}
 use Rattle.std.specs.Prelude.{length, flat_map, slice_get, Some}
 use Rattle.std.specs.List.{enumerate_from}
 use Rattle.std.specs.Option.{option_map}
@@ -9,14 +9,17 @@ use Rattle.jo_value.specs.Texts.{Table}
 use Rattle.jo_tree.specs.Trees.{Items}
 use Rattle.jo_model.specs.History.{heap_after}
 use Rattle.jo_model.specs.Rendered.{outcome_bytes, run_bytes, heap_bytes}
-use Rattle.jo_heap.specs.Closing.{heap_left, history_left}
+use Rattle.jo_heap.specs.Closing.{heap_left, history_left, counts_of_pass}
 use Rattle.jo_meaning.specs.Runs.{Ended as Finished}
 use Rattle.jo_meaning.specs.Histories.{IsHistoryOf, run_in}
-use Rattle.jo_meaning.specs.Output.{stand_bytes, script_bytes, output}
+use Rattle.jo_meaning.specs.Output.{stand_bytes, script_bytes}
 use Rattle.jo_run.specs.declared.set.Ended.{Ended}
 use Rattle.jo_run.specs.declared.set.EndedScript.{EndedScript}
 use Rattle.jo_run.specs.Sets.{HaveRun, outcomes_of}
-use Rattle.jo_answer.specs.Texts.{part_bytes, ended_bytes}
+use Rattle.jo_answer.specs.declared.order.Form.{Form}
+use Rattle.jo_answer.specs.declared.order.Form.TheVariants as forms
+use Rattle.jo_answer.specs.Forms.{counts_line, written_of}
+use Rattle.jo_answer.specs.Texts.{part_bytes, whole_bytes, ended_bytes}
 
 -- ---- one script
 
@@ -34,11 +37,24 @@ stand_left scripts texts turns ended k script e of_scripts there left =
 -- its part by what it left is that by what it does in the history
 part_left : (scripts : List Items) (texts : Table) (turns : ℕ) (ended : Ended) → HaveRun scripts texts turns ended.scripts.items ended.closed
     → (k : ℕ) (script : Items) (e : EndedScript) → slice_get scripts k ≡ Some script → slice_get ended.scripts.items k ≡ Some e
-    → part_bytes (k + 1, e) ≡ script_bytes texts turns (history_left ended.closed) (k + 1, script)
+    → part_bytes false (k + 1, e) ≡ script_bytes texts turns (history_left ended.closed) (k + 1, script)
 part_left scripts texts turns ended run k script e there left =
     let made = run_in (history_left ended.closed) (k + 1) script texts turns in
     ap (λ l. run_bytes (k + 1) l (outcome_bytes e.outcome)) (run.lines k script e there left)
     ∙ ap (λ s. run_bytes (k + 1) made.lines (stand_bytes s)) (sym (stand_left scripts texts turns ended k script e run.history there left))
+
+-- the part of a script by what it does in a history, and then the counts of its pass
+abbrev counted_part : Table → ℕ → Ended → ℕ × Items → List ℕ
+counted_part texts turns ended s =
+    script_bytes texts turns (history_left ended.closed) s ++ counts_line s.0 (counts_of_pass ended.closed.view s.0)
+
+-- so it is with its counts, which are those of its pass
+counted_left : (scripts : List Items) (texts : Table) (turns : ℕ) (ended : Ended) → HaveRun scripts texts turns ended.scripts.items ended.closed
+    → (k : ℕ) (script : Items) (e : EndedScript) → slice_get scripts k ≡ Some script → slice_get ended.scripts.items k ≡ Some e
+    → part_bytes true (k + 1, e) ≡ counted_part texts turns ended (k + 1, script)
+counted_left scripts texts turns ended run k script e there left =
+    ap (λ l. l ++ counts_line (k + 1) e.counts) (part_left scripts texts turns ended run k script e there left)
+    ∙ ap (λ n. script_bytes texts turns (history_left ended.closed) (k + 1, script) ++ counts_line (k + 1) n) (run.counts k e left)
 
 -- ---- all scripts
 
@@ -57,14 +73,27 @@ same_parts f g (x ∷ xs) (y ∷ ys) n long same =
     let first = subst (λ m. f (m, x) ≡ g (m, y)) start (same 0 x y refl refl) in
     ap (λ l. l ++ flat_map f (enumerate_from (n + 1) xs)) first ∙ ap (λ l. g (n, y) ++ l) rest
 
--- the output by what scripts left is that of the history of all their calls
-pub output_left : (scripts : List Items) (texts : Table) (turns : ℕ) (ended : Ended) → HaveRun scripts texts turns ended.scripts.items ended.closed
-    → ended_bytes texts ended ≡ output texts turns (history_left ended.closed) scripts
-output_left scripts texts turns ended run =
-    let w = history_left ended.closed in
+-- all parts, and then all objects, by what scripts left and by the history of all their calls
+whole_left : (counted : Bool) (part : ℕ × Items → List ℕ) (scripts : List Items) (texts : Table) (turns : ℕ) (ended : Ended)
+    → HaveRun scripts texts turns ended.scripts.items ended.closed
+    → ((k : ℕ) (script : Items) (e : EndedScript) → slice_get scripts k ≡ Some script → slice_get ended.scripts.items k ≡ Some e
+    → part_bytes counted (k + 1, e) ≡ part (k + 1, script))
+    → whole_bytes counted texts ended
+    ≡ flat_map part (enumerate_from 1 scripts) ++ heap_bytes texts (heap_after (length scripts + 1) (history_left ended.closed))
+whole_left counted part scripts texts turns ended run same =
     let long : length ended.scripts.items ≡ length scripts = sym (length-map ended.scripts.items (λ e. e.outcome)) ∙ run.history.as_many in
-    let parts = same_parts part_bytes (script_bytes texts turns w) ended.scripts.items scripts 1 long
-    (λ k e script left there. part_left scripts texts turns ended run k script e there left) in
-    let left : heap_left ended.closed ≡ heap_after (length scripts + 1) w = sym (subst (λ (n : ℕ). heap_after n w ≡ heap_left ended.closed) run.passes run.one.leaves) in
+    let parts = same_parts (part_bytes counted) part ended.scripts.items scripts 1 long (λ k e script left there. same k script e there left) in
+    let left : heap_left ended.closed ≡ heap_after (length scripts + 1) (history_left ended.closed) =
+    sym (subst (λ (n : ℕ). heap_after n (history_left ended.closed) ≡ heap_left ended.closed) run.passes run.one.leaves) in
     ap (λ p. p ++ heap_bytes texts (heap_left ended.closed)) parts
-    ∙ ap (λ h. flat_map (script_bytes texts turns w) (enumerate_from 1 scripts) ++ heap_bytes texts h) left
+    ∙ ap (λ h. flat_map part (enumerate_from 1 scripts) ++ heap_bytes texts h) left
+
+-- what is written by what scripts left is that of the history of all their calls
+pub output_left : (form : Form) (scripts : List Items) (texts : Table) (turns : ℕ) (ended : Ended)
+    → HaveRun scripts texts turns ended.scripts.items ended.closed
+    → ended_bytes form texts ended ≡ written_of form texts turns scripts ended
+output_left forms.Output scripts texts turns ended run =
+    whole_left false (script_bytes texts turns (history_left ended.closed)) scripts texts turns ended run (part_left scripts texts turns ended run)
+output_left forms.Counted scripts texts turns ended run =
+    whole_left true (counted_part texts turns ended) scripts texts turns ended run (counted_left scripts texts turns ended run)
+output_left (forms.Summary n) scripts texts turns ended run = refl

@@ -1,11 +1,11 @@
--- Worked cases: the output of scripts, and the lines of refusals, by computation.
+-- Worked cases: what is written of scripts, and the lines of refusals, by computation.
 use Rattle.std.proofs.Common.{refl}
-use Rattle.std.specs.Prelude.{◌≡◌, ℕ, pos, false, [], ◌∷◌, codes}
+use Rattle.std.specs.Prelude.{◌≡◌, ℕ, ◌+◌, ◌-◌, ◌*◌, pos, negsuc, false, [], ◌∷◌, codes}
 use Rattle.std.specs.Fmt.{digits}
 use Rattle.jo_value.specs.Texts.{Table}
 use Rattle.jo_value.specs.declared.value.NameId.{NameId}
 use Rattle.jo_value.specs.declared.value.Key.TheVariants.{Name}
-use Rattle.jo_value.specs.declared.value.Value.TheVariants.{Int}
+use Rattle.jo_value.specs.declared.value.Value.TheVariants.{Int, Null}
 use Rattle.jo_lex.specs.declared.refusal.RefusalKind.TheVariants.{NestedTooDeep}
 use Rattle.jo_tree.specs.declared.keyword.Keyword.TheVariants as keyword
 use Rattle.jo_tree.specs.declared.operator.AssignOperator.TheVariants.{Set}
@@ -14,10 +14,13 @@ use Rattle.jo_tree.specs.Trees.{Tree, number, constant, member, assign, no_acces
 use Rattle.jo_model.specs.declared.call.Call.TheVariants.{Put}
 use Rattle.jo_model.specs.declared.call.Outcome.TheVariants as outcome
 use Rattle.jo_model.specs.declared.call.Reply.TheVariants.{Done}
-use Rattle.jo_model.specs.Heaps.{shared}
+use Rattle.jo_model.specs.Objects.{empty_object}
+use Rattle.jo_model.specs.Heaps.{Heap, shared}
 use Rattle.jo_model.specs.History.{Entry}
+use Rattle.jo_rule.specs.declared.counts.Counts.{Counts}
 use Rattle.jo_meaning.specs.Histories.{played_alone}
 use Rattle.jo_meaning.specs.Output.{output}
+use Rattle.jo_answer.specs.Forms.{counts_line, counted_output, summary_line}
 use Rattle.jo_answer.specs.Lines.{refusal_line}
 
 -- ---- words of the cases
@@ -64,6 +67,35 @@ pub two_scripts_write_their_names_in_the_order_of_the_history :
     output texts 0 (entry 2 2 8 ∷ entry 1 1 7 ∷ []) (alone (put 1 7) ∷ alone (put 2 8) ∷ []) ≡ codes "1= done\n2= done\n#0.0 {\"y\": 8, \"x\": 7}\n"
 unfolding digits
 two_scripts_write_their_names_in_the_order_of_the_history = refl
+
+-- ---- counts
+
+-- the counts of each script, by its number
+abbrev counts : ℕ → Counts
+counts n = record { loads = 10 * n; stores = n + 3; exchanges = n + 1; locks = n - 1 }
+
+pub a_line_of_counts_has_loads_stores_exchanges_and_locks : counts_line 7 (counts 2) ≡ codes "7# loads 20 stores 5 exchanges 3 locks 1\n"
+unfolding digits
+a_line_of_counts_has_loads_stores_exchanges_and_locks = refl
+
+-- the two scripts again, each with its own counts after its part
+pub the_counts_of_each_script_follow_its_outcome :
+    counted_output texts 0 (entry 2 2 8 ∷ entry 1 1 7 ∷ []) counts (alone (put 1 7) ∷ alone (put 2 8) ∷ [])
+    ≡ codes "1= done\n1# loads 10 stores 4 exchanges 2 locks 0\n2= done\n2# loads 20 stores 5 exchanges 3 locks 1\n#0.0 {\"y\": 8, \"x\": 7}\n"
+unfolding digits
+the_counts_of_each_script_follow_its_outcome = refl
+
+-- ---- made sets
+
+-- an object with two names and an index, and an empty one
+abbrev small : Heap
+small = (record { names = (named 1, Int (negsuc 8)) ∷ (named 2, Null) ∷ []; elements = (5, Int (pos 2)) ∷ [] } ∷ empty_object ∷ []) ∷ []
+
+pub a_made_set_is_one_line :
+    summary_line 12 (outcome.Done ∷ outcome.TypeFault ∷ outcome.Done ∷ []) small
+    ≡ codes "made 12: scripts 3, done 2, objects 2, names 2, elements 1, sum -7\n"
+unfolding digits
+a_made_set_is_one_line = refl
 
 -- ---- refusals
 

@@ -5,26 +5,26 @@ use Rattle.jo_value.specs.Texts.{Table}
 use Rattle.jo_lex.specs.declared.refusal.Refusal.{Refusal}
 use Rattle.jo_tree.specs.Trees.{Items}
 use Rattle.jo_model.specs.declared.call.Outcome.TheVariants as outcome
-use Rattle.jo_heap.specs.Closing.{history_left}
-use Rattle.jo_meaning.specs.Output.{output}
 use Rattle.jo_grammar.specs.Sets.{IsAcceptedSet, IsRefusal}
 use Rattle.jo_run.specs.declared.set.Ended.{Ended}
 use Rattle.jo_run.specs.declared.set.EndedScript.{EndedScript}
 use Rattle.jo_run.specs.Sets.{HaveRun}
 use Rattle.jo_answer.specs.declared.due.Verdict.{Verdict}
 use Rattle.jo_answer.specs.declared.due.Verdict.TheVariants as verdict
+use Rattle.jo_answer.specs.declared.order.Order.{Order}
+use Rattle.jo_answer.specs.Forms.{written_of}
 use Rattle.jo_answer.specs.Lines.{refusal_line, size_line}
 
 -- ---- what is due
 
--- The bytes are an accepted set, which was run with so many turns for each script: all calls make one legal history of its
--- scripts, and what is written is the output of that.
-pub record IsRun (turns : ℕ) (ended : Ended) (bytes written : List ℕ) : Type 0 where
+-- The bytes are an accepted set, which was run with as many turns for each script as the order says: all calls make one legal
+-- history of its scripts, and what is written is the output of that, or what else the order asks for.
+pub record IsRun (order : Order) (ended : Ended) (bytes written : List ℕ) : Type 0 where
   pub scripts : List Items
   pub texts : Table
   pub set : IsAcceptedSet bytes scripts texts
-  pub run : HaveRun scripts texts turns ended.scripts.items ended.closed
-  pub output_is : written ≡ output texts turns (history_left ended.closed) scripts
+  pub run : HaveRun scripts texts order.turns ended.scripts.items ended.closed
+  pub output_is : written ≡ written_of order.form texts order.turns scripts ended
 
 -- all scripts came to their ends without a fault
 abbrev pub AreDone : List EndedScript → Type 0
@@ -42,14 +42,14 @@ pub record IsRefusalLine (bytes written : List ℕ) : Type 0 where
   pub refused : IsRefusal bytes refusal
   pub line : written ≡ refusal_line refusal
 
--- What is said of these bytes with so many turns, what is left of a run, and what is due for them. Nothing is left where nothing
+-- What is said of these bytes with this order, what is left of a run, and what is due for them. Nothing is left where nothing
 -- was run.
-abbrev pub IsDue : Verdict → ℕ → List ℕ → Option Ended → List ℕ → Type 0
-IsDue verdict.Done turns bytes (Some ended) written = AreDone ended.scripts.items × IsRun turns ended bytes written
-IsDue verdict.EndedWithFaults turns bytes (Some ended) written = (AreDone ended.scripts.items → ⊥) × IsRun turns ended bytes written
-IsDue verdict.Refused turns bytes None written = IsRefusalLine bytes written
-IsDue verdict.TooLarge turns bytes None written = (MOST_INPUT < length bytes) × (written ≡ size_line)
-IsDue _ turns bytes _ written = ⊥
+abbrev pub IsDue : Verdict → Order → List ℕ → Option Ended → List ℕ → Type 0
+IsDue verdict.Done order bytes (Some ended) written = AreDone ended.scripts.items × IsRun order ended bytes written
+IsDue verdict.EndedWithFaults order bytes (Some ended) written = (AreDone ended.scripts.items → ⊥) × IsRun order ended bytes written
+IsDue verdict.Refused order bytes None written = IsRefusalLine bytes written
+IsDue verdict.TooLarge order bytes None written = (MOST_INPUT < length bytes) × (written ≡ size_line)
+IsDue _ order bytes _ written = ⊥
 
 -- ---- which inputs these are
 

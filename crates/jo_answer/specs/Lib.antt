@@ -1,4 +1,5 @@
 pub mod Lines
+pub mod Forms
 pub mod Answers
 pub mod Texts
 pub mod inner

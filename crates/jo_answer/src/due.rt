@@ -6,6 +6,7 @@ ghost use Rattle.jo_grammar.specs.Sets.{IsAcceptedSet};
 ghost use Rattle.jo_answer.specs.Answers.{IsDue, IsVerdictOf};
 ghost use Rattle.jo_answer.specs.Texts.{IsPrintable, ended_of, text_of};
 
+use crate::Order;
 use crate::lines::{SIZE_LINE, refusal_line};
 use crate::text::Due;
 use jo_model::Outcome;
@@ -36,17 +37,17 @@ pub struct Answer {
     pub due: Due,
 }
 
-/// The answer to an input, which may be a byte longer than an input may be. An accepted set is run, each script in a thread of its
-/// own, with so many turns, and with this gate before its calls. Once a script runs no memory is wanted.
+/// The answer to an input, which may be a byte longer than an input may be. An accepted set is run as the order says, each script in
+/// a thread of its own, and with this gate before its calls. Once a script runs no memory is wanted.
 pub fn answer_to<R: Threads + Wait + Sync, G: Gate>(
     rt: &R,
     alloc: Global,
     bytes: &[u8],
-    turns: u32,
+    order: Order,
     gate: &G,
 ) -> Result<Answer, AllocError>
     ensures whole { IfOk result (λ answer. (answer.verdict ≡ Verdict.TooLarge → ⊥) → length bytes.now ≤ MOST_INPUT) }
-    ensures due { IfOk result (λ answer. IsDue answer.verdict turns bytes.now (ended_of answer.due) (text_of answer.due)) }
+    ensures due { IfOk result (λ answer. IsDue answer.verdict order bytes.now (ended_of answer.due) (text_of answer.due)) }
     ensures printable { IfOk result (λ answer. IsPrintable answer.due) }
 {
     if bytes.len() > MOST_INPUT {
@@ -57,7 +58,7 @@ pub fn answer_to<R: Threads + Wait + Sync, G: Gate>(
     }
     match parse_set(alloc, bytes) {
         Ok(set) => {
-            let answer = answer_to_set(rt, alloc, set, turns, gate)?;
+            let answer = answer_to_set(rt, alloc, set, order, gate)?;
             Ok(answer)
         }
         Err(ParseFault::Refused(refusal)) => Ok(Answer {
@@ -73,17 +74,21 @@ fn answer_to_set<R: Threads + Wait + Sync, G: Gate>(
     rt: &R,
     alloc: Global,
     set: ScriptSet,
-    turns: u32,
+    order: Order,
     gate: &G,
 ) -> Result<Answer, AllocError>
     ensures due { IfOk result (λ answer. (bytes : List ℕ) → IsAcceptedSet bytes (trees_of set) set.1
-        → IsDue answer.verdict turns bytes (ended_of answer.due) (text_of answer.due)) }
+        → IsDue answer.verdict order bytes (ended_of answer.due) (text_of answer.due)) }
     ensures printable { IfOk result (λ answer. IsPrintable answer.due) }
 {
-    let ended = run_set(rt, alloc, &set, turns, gate)?;
+    let ended = run_set(rt, alloc, &set, order.turns, gate)?;
     Ok(Answer {
         verdict: verdict_of(&ended.scripts),
-        due: Due::Output { set, ended },
+        due: Due::Output {
+            set,
+            ended,
+            form: order.form,
+        },
     })
 }
 

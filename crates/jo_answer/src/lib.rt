@@ -4,7 +4,10 @@
 mod due;
 mod left;
 mod lines;
+mod order;
+mod summary;
 mod text;
 
 pub use due::{Answer, Verdict, answer_to};
+pub use order::{Form, Order};
 pub use text::{Due, Written};

@@ -1,4 +1,4 @@
-pub mod Turns
+pub mod Numbers
 pub mod Statuses
 pub mod Inputs
 pub mod Written

@@ -32,6 +32,13 @@ said_is_no_fault verdict.EndedWithFaults = λ e. cc
 said_is_no_fault verdict.Refused = λ e. cc
 said_is_no_fault verdict.TooLarge = λ e. cc
 
+-- or for other words
+pub said_is_not_usage : (said : Verdict) → status_of said ≢ status.Usage
+said_is_not_usage verdict.Done = λ e. cc
+said_is_not_usage verdict.EndedWithFaults = λ e. cc
+said_is_not_usage verdict.Refused = λ e. cc
+said_is_not_usage verdict.TooLarge = λ e. cc
+
 -- ---- what is due is answered
 
 pub due_status : (said due : Verdict) → said ≡ due → IsUnlessFault (status_of due) (status_of said)

@@ -2,7 +2,7 @@
 use Rattle.std.specs.Prelude.{◌≡◌, ◌⊎◌, ℕ, ◌<◌, ◌≤◌, List, codes, length, Option, Some, None, String, ⊤}
 use Rattle.std.specs.declared.alloc.Global.{Global}
 use Rattle.std.specs.Io.KnownBytes.{Consumes, IsAtEnd, Appends}
-use Rattle.jo_value.specs.declared.limits.TheConstants.{MOST_INPUT}
+use Rattle.jo_value.specs.declared.limits.TheConstants.{DEFAULT_TURNS, MOST_INPUT}
 use Rattle.jo_io.specs.Bytes.{AppendsPart}
 use Rattle.jo_run.specs.declared.set.Ended.{Ended}
 use Rattle.jo_answer.specs.declared.due.Verdict.{Verdict}
@@ -10,7 +10,12 @@ use Rattle.jo_answer.specs.declared.due.Verdict.TheVariants as verdict
 use Rattle.jo_answer.specs.Answers.{IsDue, IsSet, IsRefusedInput}
 use Rattle.jo_program.specs.declared.status.Status.{Status}
 use Rattle.jo_program.specs.declared.status.Status.TheVariants as status
-use Rattle.jo_program.specs.Words.{turns_of}
+use Rattle.jo_answer.specs.declared.order.Order.{Order}
+use Rattle.jo_answer.specs.declared.order.Form.TheVariants.{Summary}
+use Rattle.jo_made.specs.Made.{made}
+use Rattle.jo_program.specs.declared.words.Command.{Command}
+use Rattle.jo_program.specs.declared.words.Command.TheVariants as command
+use Rattle.jo_program.specs.Words.{command_of}
 
 -- the exit code of each status
 abbrev pub exit_code_of : Status → ℕ
@@ -33,24 +38,39 @@ status_of verdict.TooLarge = status.TooLarge
 abbrev pub usage_line : List ℕ
 usage_line = codes "usage: jsobj run [--stats] [--turns T] | make N | run-made N\n"
 
--- The input was read, to its end unless it is too large; this is said of it with so many turns, this is left of a run, and what is
+-- The input was read, to its end unless it is too large; this is said of it with this order, this is left of a run, and what is
 -- written is due for it.
-pub record IsAnswer (turns : ℕ) (said : Verdict) (left left' : Option (List ℕ)) (ended : Option Ended) (written : List ℕ) : Type 0 where
+pub record IsAnswer (order : Order) (said : Verdict) (left left' : Option (List ℕ)) (ended : Option Ended) (written : List ℕ) : Type 0 where
   pub bytes : List ℕ
   pub read : Consumes left left' bytes
   pub whole : (said ≡ verdict.TooLarge → ⊥) → IsAtEnd left'
   pub few : (said ≡ verdict.TooLarge → ⊥) → length bytes ≤ MOST_INPUT
-  pub due : IsDue said turns bytes ended written
+  pub due : IsDue said order bytes ended written
 
--- so it is with the turns that the words give
+-- the order in which a made set is run
+abbrev pub made_order : ℕ → Order
+made_order n = record { turns = DEFAULT_TURNS; form = Summary n }
+
+-- What is said, what is left of a run and what is due, by what the words ask for: for the input that was read, for a made set that
+-- is written, or for one that is run.
+abbrev pub IsAnswerBy : Command → Verdict → Option (List ℕ) → Option (List ℕ) → Option Ended → List ℕ → Type 0
+IsAnswerBy (command.Run order) said left left' ended written = IsAnswer order said left left' ended written
+IsAnswerBy (command.Make n) said left left' ended written = (said ≡ verdict.Done) × (ended ≡ None) × (written ≡ made n)
+IsAnswerBy (command.RunMade n) said left left' ended written = IsDue said (made_order n) (made n) ended written
+
 pub record IsAnswerTo (words : List (String Global)) (said : Verdict) (left left' : Option (List ℕ)) (ended : Option Ended) (written : List ℕ) : Type 0 where
-  pub turns : ℕ
-  pub given : turns_of words ≡ Some turns
-  pub answer : IsAnswer turns said left left' ended written
+  pub command : Command
+  pub given : command_of words ≡ Some command
+  pub answer : IsAnswerBy command said left left' ended written
+
+-- the words ask that a set is read
+abbrev pub Reads : Option Command → Type 0
+Reads (Some (command.Run order)) = ⊤
+Reads _ = ⊥
 
 -- other words were given, nothing was run, and what is written is the usage line
 pub record IsUsage (words : List (String Global)) (ended : Option Ended) (written : List ℕ) : Type 0 where
-  pub other : turns_of words ≡ None
+  pub other : command_of words ≡ None
   pub none : ended ≡ None
   pub line : written ≡ usage_line
 
@@ -92,3 +112,10 @@ pub record IsJudged (result : Status) (bytes : List ℕ) : Type 0 where
   pub only_run : (result ≡ status.Done) ⊎ (result ≡ status.EndedWithFaults) → IsSet bytes
   pub only_refused : result ≡ status.Refused → IsRefusedInput bytes
   pub only_large : result ≡ status.TooLarge → MOST_INPUT < length bytes
+
+-- what is answered to words that ask for a made set to be written
+abbrev pub IsMadeUnlessFault : Status → Type 0
+IsMadeUnlessFault status.Done = ⊤
+IsMadeUnlessFault status.WriteFault = ⊤
+IsMadeUnlessFault status.Memory = ⊤
+IsMadeUnlessFault _ = ⊥

@@ -1,26 +1,47 @@
--- Which words are a command line of the program, and what they say.
+-- Which words are a command line of the program, and what they ask for.
 use Rattle.std.specs.Prelude.{ℕ, ◌&&◌, nat_le, Bool, if◌then◌else◌, List, [], ◌∷◌, codes, Option, Some, None, string_bytes, String}
+use Rattle.std.specs.Option.{option_map}
 use Rattle.std.specs.Str.{bytes_eq}
 use Rattle.std.specs.Str.Parse.{digits_value}
 use Rattle.std.specs.declared.alloc.Global.{Global}
 use Rattle.jo_value.specs.declared.limits.TheConstants.{DEFAULT_TURNS, MOST_TURNS}
 use Rattle.jo_value.specs.Keys.{is_numeral}
+use Rattle.jo_answer.specs.declared.order.Form.{Form}
+use Rattle.jo_answer.specs.declared.order.Form.TheVariants as form
+use Rattle.jo_program.specs.declared.words.Command.{Command}
+use Rattle.jo_program.specs.declared.words.Command.TheVariants.{Run, Make, RunMade}
+use Rattle.jo_program.specs.declared.words.TheConstants.{MOST_MADE}
 
--- the number of turns that a text is: decimal digits without a zero in front, from 1 to the most
-abbrev pub turns_in : List ℕ → Option ℕ
-turns_in text =
-    if is_numeral text && (nat_le 1 (digits_value 10 text) && nat_le (digits_value 10 text) MOST_TURNS)
+-- the number between these bounds that a text is: decimal digits without a zero in front
+abbrev pub number_in : ℕ → ℕ → List ℕ → Option ℕ
+number_in least most text =
+    if is_numeral text && (nat_le least (digits_value 10 text) && nat_le (digits_value 10 text) most)
     then Some (digits_value 10 text) else None
 
-abbrev pub is_run : String Global → Bool
-is_run word = bytes_eq (string_bytes word) (codes "run")
+abbrev pub is_word : String Global → List ℕ → Bool
+is_word word text = bytes_eq (string_bytes word) text
 
-abbrev pub is_turns : String Global → Bool
-is_turns word = bytes_eq (string_bytes word) (codes "--turns")
+-- how many turns a word gives a script, and the number of a made set that it is
+abbrev pub turns_in : String Global → Option ℕ
+turns_in word = number_in 1 MOST_TURNS (string_bytes word)
 
--- How many turns the words give a script. They are `run` alone, or `run --turns T`, the command lines that are accepted so
--- far; all others give none.
-abbrev pub turns_of : List (String Global) → Option ℕ
-turns_of (word ∷ []) = if is_run word then Some DEFAULT_TURNS else None
-turns_of (word ∷ option ∷ number ∷ []) = if is_run word && is_turns option then turns_in (string_bytes number) else None
-turns_of _ = None
+abbrev pub made_in : String Global → Option ℕ
+made_in word = number_in 0 MOST_MADE (string_bytes word)
+
+-- a set is read and run with so many turns, and this is written of it
+abbrev pub run_with : Form → ℕ → Command
+run_with form turns = Run (record { turns = turns; form = form })
+
+-- What the words ask for. They are `run`, `run --turns T`, `run --stats`, `run --stats --turns T`, `make N` or `run-made N`; all
+-- others are no command line.
+abbrev pub command_of : List (String Global) → Option Command
+command_of (a ∷ []) = if is_word a (codes "run") then Some (run_with form.Output DEFAULT_TURNS) else None
+command_of (a ∷ b ∷ []) =
+    if is_word a (codes "make") then option_map Make (made_in b)
+    else if is_word a (codes "run-made") then option_map RunMade (made_in b)
+    else if is_word a (codes "run") && is_word b (codes "--stats") then Some (run_with form.Counted DEFAULT_TURNS) else None
+command_of (a ∷ b ∷ c ∷ []) =
+    if is_word a (codes "run") && is_word b (codes "--turns") then option_map (run_with form.Output) (turns_in c) else None
+command_of (a ∷ b ∷ c ∷ d ∷ []) =
+    if is_word a (codes "run") && (is_word b (codes "--stats") && is_word c (codes "--turns")) then option_map (run_with form.Counted) (turns_in d) else None
+command_of _ = None

@@ -1,19 +1,42 @@
 // The words of a command line.
-ghost use Rattle.std.specs.Prelude.{◌≡◌, IsTrue, true};
+ghost use Rattle.std.specs.Prelude.{◌≡◌, ◌∷◌, []};
 ghost use Rattle.jo_value.specs.Keys.{is_unpadded, is_numeral};
-ghost use Rattle.jo_program.specs.Words.{is_run, is_turns, turns_in, turns_of};
+ghost use Rattle.jo_program.specs.Words.{command_of, is_word, made_in, number_in, run_with, turns_in};
 
+use jo_answer::{Form, Order};
 use jo_value::{DEFAULT_TURNS, MOST_TURNS};
 
-/// How many turns the words give a script, where they are a command line of the program.
-pub(crate) fn turns_of(words: &[String]) -> Option<u32>
-    ensures { result ≡ turns_of words.now }
+/// The largest number of a made set.
+pub const MOST_MADE: u32 = 999_999;
+
+/// What a command line asks for.
+#[derive(Clone, Copy, Debug, PartialEq, Eq)]
+pub enum Command {
+    /// To read a set and run it.
+    Run(Order),
+    /// To write the made set with this number.
+    Make(u32),
+    /// To run the made set with this number.
+    RunMade(u32),
+}
+
+/// What the words ask for, where they are a command line of the program.
+pub(crate) fn command_of(words: &[String]) -> Option<Command>
+    ensures { result ≡ command_of words.now }
 {
     match words {
-        [word] => is_run(word).then_some(DEFAULT_TURNS),
-        [word, option, number] => {
-            if is_run(word) && is_turns(option) {
-                turns_in(number.as_str())
+        [word] => is_word(word, "run").then_some(run_with(Form::Output, DEFAULT_TURNS)),
+        [word, second] => command_of_two(word, second),
+        [word, option, turns] => {
+            if is_word(word, "run") && is_word(option, "--turns") {
+                Some(run_with(Form::Output, turns_in(turns)?))
+            } else {
+                None
+            }
+        }
+        [word, stats, option, turns] => {
+            if is_word(word, "run") && is_word(stats, "--stats") && is_word(option, "--turns") {
+                Some(run_with(Form::Counted, turns_in(turns)?))
             } else {
                 None
             }
@@ -22,27 +45,55 @@ pub(crate) fn turns_of(words: &[String]) -> Option<u32>
     }
 }
 
-fn is_run(word: &String) -> bool
-    ensures { result ≡ is_run word.now }
+// The same for two words.
+fn command_of_two(word: &String, second: &String) -> Option<Command>
+    ensures { result ≡ command_of (word.now ∷ second.now ∷ []) }
 {
-    word.as_str() == "run"
+    if is_word(word, "make") {
+        return Some(Command::Make(made_in(second)?));
+    }
+    if is_word(word, "run-made") {
+        return Some(Command::RunMade(made_in(second)?));
+    }
+    let stats = is_word(word, "run") && is_word(second, "--stats");
+    stats.then_some(run_with(Form::Counted, DEFAULT_TURNS))
 }
 
-fn is_turns(word: &String) -> bool
-    ensures { result ≡ is_turns word.now }
+fn run_with(form: Form, turns: u32) -> Command
+    ensures { result ≡ run_with form turns }
 {
-    word.as_str() == "--turns"
+    Command::Run(Order { turns, form })
 }
 
-// The number of turns that a text is.
-fn turns_in(text: &str) -> Option<u32>
-    ensures { result ≡ turns_in text.now }
+fn is_word(word: &String, text: &str) -> bool
+    ensures { result ≡ is_word word.now text.now }
+{
+    word.as_str() == text
+}
+
+// The number of turns that a word is.
+fn turns_in(word: &String) -> Option<u32>
+    ensures { result ≡ turns_in word.now }
+{
+    number_in(1, MOST_TURNS, word.as_str())
+}
+
+// The number of a made set that a word is.
+fn made_in(word: &String) -> Option<u32>
+    ensures { result ≡ made_in word.now }
+{
+    number_in(0, MOST_MADE, word.as_str())
+}
+
+// The number between these bounds that a text is.
+fn number_in(least: u32, most: u32, text: &str) -> Option<u32>
+    ensures { result ≡ number_in least most text.now }
 {
     if !is_numeral(text.as_bytes()) {
         return None;
     }
     match text.parse::<u32>() {
-        Ok(turns) => (1 <= turns && turns <= MOST_TURNS).then_some(turns),
+        Ok(number) => (least <= number && number <= most).then_some(number),
         Err(_) => None,
     }
 }

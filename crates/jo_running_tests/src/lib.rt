@@ -8,6 +8,8 @@ mod limits;
 #[cfg(test)]
 mod lines;
 #[cfg(test)]
+mod made;
+#[cfg(test)]
 mod runs;
 #[cfg(test)]
 mod scripts;

@@ -9,8 +9,8 @@ const OUTPUT: &[u8] = b"1| 1 undefined\n1= done\n#0.0 {\"x\": 1, \"y\": 2}\n";
 
 const USAGE: &[u8] = b"usage: jsobj run [--stats] [--turns T] | make N | run-made N\n";
 
-// Words that are no command line so far. Nothing is read then.
-const OTHERS: [&[&str]; 16] = [
+// Words that are no command line. Nothing is read then.
+const OTHERS: [&[&str]; 22] = [
     &[],
     &["Run"],
     &["run", "run"],
@@ -24,9 +24,15 @@ const OTHERS: [&[&str]; 16] = [
     &["run", "--turns", "5", "5"],
     &["run", "--Turns", "5"],
     &["--turns", "5"],
-    &["run", "--stats"],
-    &["make", "7"],
-    &["run-made", "7"],
+    &["run", "--turns", "5", "--stats"],
+    &["run", "--stats", "--turns"],
+    &["run", "--stats", "--turns", "0"],
+    &["make"],
+    &["make", "07"],
+    &["make", "1000000"],
+    &["run-made"],
+    &["run-made", "-1"],
+    &["run-made", "7", "7"],
 ];
 
 #[test]

@@ -13,16 +13,17 @@ use Rattle.jo_answer.proofs.due.answer_to_set.Goals as goal
 pub returns-clause-due : goal.returns-clause-due
 returns-clause-due g c = λ bytes accepted.
     let set = c.args.set in
+    let order = c.args.order in
     let ended = c.in_ok-ended.ended in
     let scripts = trees_of set in
-    let run : IsRun c.args.turns ended bytes (ended_bytes set.1 ended) = record {
+    let run : IsRun order ended bytes (ended_bytes order.form set.1 ended) = record {
       scripts = scripts;
       texts = set.1;
       set = accepted;
       run = c.in_ok-ended.ensures;
-      output_is = output_left scripts set.1 c.args.turns ended c.in_ok-ended.ensures;
+      output_is = output_left order.form scripts set.1 order.turns ended c.in_ok-ended.ensures;
     } in
-    due_of_run c.verdict_of.result c.args.turns bytes (ended_bytes set.1 ended) ended (rw (← c.deref.ensures.value) c.verdict_of.ensures) run
+    due_of_run c.verdict_of.result order bytes (ended_bytes order.form set.1 ended) ended (rw (← c.deref.ensures.value) c.verdict_of.ensures) run
 
 pub returns-clause-printable : goal.returns-clause-printable
 returns-clause-printable g c =

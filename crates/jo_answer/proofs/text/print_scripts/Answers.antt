@@ -11,5 +11,5 @@ pub loop-before-preserved : goal.loop-before-preserved
 loop-before-preserved g c =
     let before = c.loop-before.before in
     let read = c.index-scripts-before in
-    let printed = rw c.deref.ensures.value at c.print_run.ensures in
-    leaves-more _ c.loop-before.invariant printed (numbered-rest part_bytes c.args.scripts.now (before + 1) before read.result read.result c.loop-before-test.true read.is)
+    leaves-more _ c.loop-before.invariant c.print_part.ensures
+    (numbered-rest (part_bytes c.args.counted) c.args.scripts.now (before + 1) before read.result read.result c.loop-before-test.true read.is)

@@ -1,0 +1,8 @@
+use Rattle.jo_print.proofs.Printed.{prints-both}
+use Rattle.jo_answer.proofs.text.print_whole.Goals as goal
+
+pub returns : goal.returns
+returns g c =
+    let scripts = rw c.deref.ensures.value at c.print_scripts.ensures in
+    let heap = rw c.of.ensures at c.print_heap.ensures in
+    prints-both scripts heap

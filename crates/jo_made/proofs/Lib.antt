@@ -1,0 +1,3 @@
+pub mod Scripts
+pub mod Lengths
+pub mod Worked

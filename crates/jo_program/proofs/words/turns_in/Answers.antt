@@ -1,9 +1,0 @@
-use Rattle.std.proofs.Common.{◌≡◌, ◌∙◌, true, ap, sym}
-use Rattle.jo_value.specs.Keys.{is_numeral}
-use Rattle.jo_program.proofs.Turns.{beyond}
-use Rattle.jo_program.proofs.words.turns_in.Goals as goal
-
-pub returns-in-Err : goal.returns-in-Err
-returns-in-Err c =
-    let numeral : is_numeral c.args.text.now ≡ true = ap is_numeral (sym c.as_bytes.ensures.value) ∙ sym c.is_numeral.ensures ∙ c.if-not-is_numeral.false in
-    sym (beyond c.args.text.now c.in-Err.field-0 c.in-Err.ensures.value.0 numeral)
