@@ -24,7 +24,7 @@ loop_head number = codes "let i = 0;\nwhile (i < 1000) { a[i] = i + " ++ decimal
 abbrev pub loop_tail : ℕ → List ℕ
 loop_tail t = codes "a.c = i; shared[" ++ decimal t ++ codes "00 + i % 100] = i; i += 1; }\n"
 
--- the line that deletes its first name
+-- the line that deletes the first of its names from `shared`
 abbrev pub delete_line : ℕ → List ℕ
 delete_line t = codes "delete shared.n" ++ decimal t ++ codes "_0;\n"
 

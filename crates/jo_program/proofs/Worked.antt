@@ -1,8 +1,7 @@
 -- Worked cases: texts that are numbers of turns or of made sets, and texts that are none, by computation.
 use Rattle.std.proofs.Common.{refl}
 use Rattle.std.specs.Prelude.{◌≡◌, ℕ, List, codes, Option, Some, None, []}
-use Rattle.jo_value.specs.declared.limits.TheConstants.{MOST_TURNS}
-use Rattle.jo_program.specs.declared.words.TheConstants.{MOST_MADE}
+use Rattle.jo_value.specs.declared.limits.TheConstants.{MOST_MADE, MOST_TURNS}
 use Rattle.jo_program.specs.Words.{number_in, command_of}
 
 abbrev pub turns : List ℕ → Option ℕ

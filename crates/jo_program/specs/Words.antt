@@ -4,13 +4,12 @@ use Rattle.std.specs.Option.{option_map}
 use Rattle.std.specs.Str.{bytes_eq}
 use Rattle.std.specs.Str.Parse.{digits_value}
 use Rattle.std.specs.declared.alloc.Global.{Global}
-use Rattle.jo_value.specs.declared.limits.TheConstants.{DEFAULT_TURNS, MOST_TURNS}
+use Rattle.jo_value.specs.declared.limits.TheConstants.{DEFAULT_TURNS, MOST_MADE, MOST_TURNS}
 use Rattle.jo_value.specs.Keys.{is_numeral}
 use Rattle.jo_answer.specs.declared.order.Form.{Form}
 use Rattle.jo_answer.specs.declared.order.Form.TheVariants as form
 use Rattle.jo_program.specs.declared.words.Command.{Command}
 use Rattle.jo_program.specs.declared.words.Command.TheVariants.{Run, Make, RunMade}
-use Rattle.jo_program.specs.declared.words.TheConstants.{MOST_MADE}
 
 -- the number between these bounds that a text is: decimal digits without a zero in front
 abbrev pub number_in : ℕ → ℕ → List ℕ → Option ℕ

@@ -10,4 +10,4 @@ mod words;
 pub use process::start;
 pub use status::Status;
 pub use top::{Kept, run};
-pub use words::{Command, MOST_MADE};
+pub use words::Command;

@@ -12,8 +12,8 @@ use std::sync::Wait;
 use std::thread::Threads;
 use std::{env, io};
 
-/// All that `main` does: runs the set of scripts on standard input, writes its output to standard
-/// output, and gives the exit code.
+/// All that `main` does: what the arguments ask for, from standard input to standard output. The
+/// answer is the exit code.
 pub fn start<R: AllocGlobal + Env + Input + Print + Threads + Wait + Sync>(rt: &R) -> ExitCode {
     let status = match arguments(rt) {
         Ok(arguments) => {

@@ -7,7 +7,7 @@ use std::process::ExitCode;
 /// How a run ended.
 #[derive(Clone, Copy, Debug, PartialEq)]
 pub enum Status {
-    /// All scripts are done: the output was written.
+    /// All scripts are done, and what is due was written; or a made set was written.
     Done,
     /// The words are no command line of the program: the usage line was written.
     Usage,
@@ -17,9 +17,9 @@ pub enum Status {
     TooLarge,
     /// A read failed: nothing was written.
     ReadFault,
-    /// A write failed: the beginning of the output was written, and not all of it.
+    /// A write failed: the beginning of what is due was written, and not all of it.
     WriteFault,
-    /// A script ended by a fault: the output was written.
+    /// A script ended by a fault: what is due was written.
     EndedWithFaults,
     /// No memory was left: nothing was written.
     Memory,

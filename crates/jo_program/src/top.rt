@@ -32,7 +32,7 @@ pub struct Kept {
 }
 
 /// All that the program does: reads a set of scripts from the source, runs it, each script in a thread of its own, and writes
-/// its output to the sink. Other words ask for more counts, or for a set that is made by its number.
+/// its output to the sink. Other words ask for counts beside it, or for a set that is made by its number.
 ///
 /// `words` are the arguments without the program's own name. The gate stands before each call of a script on the heap. The source
 /// and the sink may be any; what the clauses say of bytes they say of those that tell their bytes. What is left of the scripts is

@@ -4,10 +4,7 @@ ghost use Rattle.jo_value.specs.Keys.{is_unpadded, is_numeral};
 ghost use Rattle.jo_program.specs.Words.{command_of, is_word, made_in, number_in, run_with, turns_in};
 
 use jo_answer::{Form, Order};
-use jo_value::{DEFAULT_TURNS, MOST_TURNS};
-
-/// The largest number of a made set.
-pub const MOST_MADE: u32 = 999_999;
+use jo_value::{DEFAULT_TURNS, MOST_MADE, MOST_TURNS};
 
 /// What a command line asks for.
 #[derive(Clone, Copy, Debug, PartialEq, Eq)]
