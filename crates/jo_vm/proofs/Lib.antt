@@ -6,4 +6,5 @@ pub mod Operands
 pub mod Steps
 pub mod Truths
 pub mod Stages
+pub mod Shortcuts
 pub mod Crosses

@@ -2,3 +2,5 @@ pub mod Calls
 pub mod Lines
 pub mod State
 pub mod Words
+pub mod Ways
+pub mod Quick

@@ -59,12 +59,14 @@ fn of_numbers(operator: BinaryOperator, i: i64, j: i64) -> Result<Value, Outcome
     }
 }
 
+#[inline(always)]
 pub(crate) fn is_safe(i: i64) -> bool
     ensures { IsTrue result ↔ ((neg_ℤ (pos MOST_NUMBER) ≤ℤ i) × (i ≤ℤ pos MOST_NUMBER)) }
 {
     -LARGEST <= i && i <= LARGEST
 }
 
+#[inline(always)]
 pub(crate) fn safe(i: i64) -> Result<Value, Outcome>
     ensures { result ≡ safe i }
 {
@@ -102,6 +104,7 @@ fn difference(i: i64, j: i64) -> Result<Value, Outcome>
     }
 }
 
+#[inline(always)]
 pub(crate) fn product(i: i64, j: i64) -> Result<Value, Outcome>
     ensures { result ≡ safe (i *ℤ j) }
 {
@@ -111,6 +114,7 @@ pub(crate) fn product(i: i64, j: i64) -> Result<Value, Outcome>
     }
 }
 
+#[inline(always)]
 pub(crate) fn remainder(i: i64, j: i64) -> Result<Value, Outcome>
     ensures { result ≡ remainder i j }
 {

@@ -1,5 +1,5 @@
 // The values that wait, of which there are never more than a fixed number.
-ghost use Rattle.std.specs.Prelude.{◌≡◌, [], IfOk, take, drop, reverse};
+ghost use Rattle.std.specs.Prelude.{◌≡◌, [], IfOk, length, nat_lt, take, drop, reverse};
 ghost use Rattle.jo_code.specs.Machine.{top, below, pushed_within};
 
 use jo_value::Value;
@@ -34,6 +34,7 @@ impl Stack {
     }
 
     /// The value on top; undefined where there is none.
+    #[inline(always)]
     pub(crate) fn top(&self) -> Value
         ensures { result ≡ top self.now.1 }
     {
@@ -44,6 +45,7 @@ impl Stack {
     }
 
     /// The value below the one on top; undefined where there is none.
+    #[inline(always)]
     pub(crate) fn second(&self) -> Value
         ensures { result ≡ top (below self.now.1) }
     {
@@ -53,7 +55,16 @@ impl Stack {
         }
     }
 
+    /// Whether there is room for another value.
+    #[inline(always)]
+    pub(crate) fn has_room(&self) -> bool
+        ensures { result ≡ nat_lt (length self.now.1) self.now.0 }
+    {
+        self.items.len() < self.room
+    }
+
     /// Puts a value on top, where there is room.
+    #[inline(always)]
     pub(crate) fn push(&mut self, value: Value)
         ensures { self.new ≡ (self.old.0, pushed_within self.old.0 value self.old.1) }
     {
@@ -63,6 +74,7 @@ impl Stack {
     }
 
     /// Takes the value on top off; undefined where there is none.
+    #[inline(always)]
     pub(crate) fn pop(&mut self) -> Value
         ensures value { result ≡ top self.old.1 }
         ensures rest { self.new ≡ (self.old.0, below self.old.1) }

@@ -31,6 +31,7 @@ impl Variables {
     }
 
     /// The value of a variable; undefined where there is no such variable.
+    #[inline(always)]
     pub(crate) fn get(&self, n: usize) -> Value
         ensures { result ≡ slice_index_or self.now n Undefined }
     {
@@ -41,6 +42,7 @@ impl Variables {
     }
 
     /// Gives a variable a value.
+    #[inline(always)]
     pub(crate) fn set(&mut self, n: usize, value: Value)
         requires { n < length self.old }
         ensures values { self.new ≡ slice_set self.old n value }

@@ -1,11 +1,13 @@
 // The machine, which stops at each call, at each turn and at the end.
 ghost use Rattle.std.specs.Prelude.{◌≡◌, ◌≤◌, [], IfOk};
+ghost use Rattle.jo_vm.specs.declared.vm.Stage.TheVariants as stage;
 
 use crate::execution::{Execution, Pause};
-use crate::frame::{Due, Frame};
+use crate::frame::{Due, Frame, Request};
 use crate::lines::Lines;
 use crate::stack::Stack;
 use crate::variables::Variables;
+use crate::ways::ways_of;
 use crate::words::Words;
 use jo_code::Code;
 use jo_model::{Call, Outcome, Reply};
@@ -59,6 +61,7 @@ impl<'a> Vm<'a> {
     ghost use Rattle.jo_code.specs.Machine.{interaction_by};
     ghost use Rattle.jo_code.specs.Needs.{entries_of};
     ghost use Rattle.jo_vm.specs.Machines.{Free, IsFree, IsWaiting, stands, Asked, Answered};
+    ghost use Rattle.jo_vm.specs.inner.State.{IsAsking};
 
     /// A machine at the start of a code, with so many turns, and with all the room that the code needs. No other call
     /// takes memory.
@@ -82,8 +85,10 @@ impl<'a> Vm<'a> {
             variables,
             lines,
         };
+        let code = code.instructions();
         let execution = Execution {
-            code: code.instructions(),
+            code,
+            ways: ways_of(alloc, texts, code)?,
             at: 0,
             frame,
         };
@@ -103,11 +108,31 @@ impl<'a> Vm<'a> {
         }
         match self.execution.run() {
             Pause::Turn => Ask::Turn,
-            Pause::Call(call, due) => {
+            Pause::Get(object, key, to) => {
+                self.stage = Stage::Waiting(Due::Found(to));
+                Ask::Call(Call::Get { object, key })
+            }
+            Pause::Asks => self.ask(),
+            Pause::End(outcome) => {
+                self.stage = Stage::Ended(outcome);
+                Ask::End(outcome)
+            }
+        }
+    }
+
+    // Asks the call of the instruction.
+    #[inline(never)]
+    fn ask(&mut self) -> Ask
+        requires going { self.old.stage ≡ stage.Going }
+        requires asks { IsAsking self.old.code self.old.at }
+        ensures { Asked self.old result self.new }
+    {
+        match self.execution.ask() {
+            Request::Call(call, due) => {
                 self.stage = Stage::Waiting(due);
                 Ask::Call(call)
             }
-            Pause::End(outcome) => {
+            Request::End(outcome) => {
                 self.stage = Stage::Ended(outcome);
                 Ask::End(outcome)
             }
@@ -120,10 +145,10 @@ impl<'a> Vm<'a> {
         ensures { Answered self.old reply self.new }
     {
         if let Stage::Waiting(due) = self.stage {
-            self.stage = match self.execution.frame.settle(due, &reply) {
-                None => Stage::Going,
-                Some(outcome) => Stage::Ended(outcome),
-            };
+            match self.execution.frame.settle(due, &reply) {
+                None => self.stage = Stage::Going,
+                Some(outcome) => self.stage = Stage::Ended(outcome),
+            }
         }
     }
 
@@ -138,6 +163,9 @@ impl<'a> Vm<'a> {
     pub fn into_lines(self) -> Vec<u8>
         ensures { result.items ≡ self.entry.lines }
     {
-        self.execution.frame.lines.into_bytes()
+        let Vm { execution, .. } = self;
+        let Execution { frame, .. } = execution;
+        let Frame { lines, .. } = frame;
+        lines.into_bytes()
     }
 }
