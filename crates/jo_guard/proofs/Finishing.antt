@@ -1,5 +1,5 @@
 -- A call that took a lock and let it go has placed one call, and leaves its pass ready for the next one.
-use Rattle.std.proofs.Common.{◌≡◌, ◌≢◌, ◌*◌, ◌≤◌, ℕ, List, [], ◌∷◌, ◌++◌, refl, sym, ap, ◌∙◌, subst, arith, length, length-append, mul-le-mul_left, None, All}
+use Rattle.std.proofs.Common.{◌≡◌, ◌≢◌, ◌*◌, ◌≤◌, ℕ, List, [], ◌∷◌, ◌++◌, refl, sym, ap, ◌∙◌, subst, arith, length, length-append, mul-le-mul_left, None}
 use Rattle.jo_value.specs.declared.capacities.TheConstants.{UNSTAMPED}
 use Rattle.jo_value.specs.declared.limits.TheConstants.{MOST_NEED}
 use Rattle.jo_value.specs.declared.value.ObjId.{ObjId}
@@ -21,6 +21,7 @@ use Rattle.jo_rule.specs.Histories.{Begins}
 use Rattle.jo_rule.specs.Steps.{no_sight}
 use Rattle.jo_rule.specs.Tidy.{IsTidy, own_changes}
 use Rattle.jo_rule.specs.Views.{View, Quarantined, Storage}
+use Rattle.jo_rule.specs.Sights.{stamp_in}
 use Rattle.jo_rule.proofs.Heaps.{formed-after}
 use Rattle.jo_rule.proofs.Histories.{begins_through}
 use Rattle.jo_steps.specs.Holding.{lock_of}
@@ -86,7 +87,7 @@ module _ {P : ℕ} {o : ObjId} {held : HeldView} {v u w : View} {event : Event} 
       record {
         no_raise = ap (λ (x : View). x.time.owed) only_since ∙ t.no_raise;
         no_firing = ap (λ (x : View). x.sets.firing) only_since ∙ t.no_firing;
-        stamped = subst (λ (l : List Quarantined). All (λ q. q.stamp ≢ UNSTAMPED) l) (sym (ap (λ (x : View). x.quarantine) only_since)) t.stamped;
+        stamped = subst (λ (l : List Quarantined). (o : ObjId) (offset : ℕ) → stamp_in l o offset ≢ UNSTAMPED) (sym (ap (λ (x : View). x.quarantine) only_since)) t.stamped;
         storage = omega arith;
         structures = omega (arith, t.structures, more_calls);
       }

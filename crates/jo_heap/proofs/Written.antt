@@ -1,5 +1,5 @@
 -- What the words of an object say that stands in them.
-use Rattle.std.proofs.Common.{◌≡◌, ◌≢◌, ◌+◌, ◌*◌, ◌<◌, ◌≤◌, ℕ, zero, suc, ltb, ⊎_elim, List, [], ◌∷◌, refl, sym, subst, ap, ◌∙◌, arith, length, slice_get, Option, Some, None}
+use Rattle.std.proofs.Common.{◌≡◌, ◌≢◌, ◌+◌, ◌*◌, ◌<◌, ◌≤◌, ℕ, zero, suc, false, ltb, ⊎_elim, List, [], ◌∷◌, refl, sym, subst, ap, ◌∙◌, arith, length, slice_get, Option, Some, None}
 use Rattle.std.specs.Prelude.{All, option_map}
 use Rattle.std.proofs.lemmas.Bool.{cases_lt, le-ltb}
 use Rattle.std.proofs.lemmas.List.Elements.{All-head, All-tail}
@@ -31,17 +31,18 @@ use Rattle.jo_heap.proofs.Both.{both_off}
 abbrev pub left_by : ClosedView → ClosedHeap
 left_by l = record { passes = l.passes; view = l.view }
 
+-- and that each of its objects is a dictionary
 abbrev pub HasLeft : ClosedView → Type 0
-HasLeft l = HasEnded l.passes (words_of l.passes l.words) l.view
+HasLeft l = HasEnded l.passes (words_of l.passes l.words) l.view × (l.view.flat ≡ false)
 
 -- each born object stands in the words
 pub written : (l : ClosedView) (c : ClosedHeap) (o : ObjId) → left_by l ≡ c → HasLeft l → IsBorn (heap_left c) o → IsWritten (words_of l.passes l.words) o (object_of (heap_left c) o)
 written l c o same h born =
-    subst (λ (x : ClosedHeap). IsBorn (heap_left x) o → IsWritten (words_of l.passes l.words) o (object_of (heap_left x) o)) same (h.objects o) born
+    subst (λ (x : ClosedHeap). IsBorn (heap_left x) o → IsWritten (words_of l.passes l.words) o (object_of (heap_left x) o)) same (h.0.dictionaries h.1 o) born
 
 pub unwritten : (l : ClosedView) (c : ClosedHeap) (o : ObjId) → left_by l ≡ c → HasLeft l → (IsBorn (heap_left c) o → ⊥) → words_of l.passes l.words (cell o) ≡ 0
 unwritten l c o same h unborn =
-    subst (λ (x : ClosedHeap). (IsBorn (heap_left x) o → ⊥) → words_of l.passes l.words (cell o) ≡ 0) same (h.unborn o) unborn
+    subst (λ (x : ClosedHeap). (IsBorn (heap_left x) o → ⊥) → words_of l.passes l.words (cell o) ≡ 0) same (h.0.unborn o) unborn
 
 -- the word of a cell is not 0
 pub cell_there : (w : Words) (o : ObjId) (z : Object) → IsWritten w o z → w (cell o) ≢ 0
@@ -55,7 +56,7 @@ some_passes l h = ⊎_elim (λ (lt : 0 < l.passes). lt)
     (λ (le : l.passes ≤ 0).
     let born : IsBorn (after l.passes l.view.past.seen) shared = born-longer l.passes [] l.view.past.seen shared (omega arith) in
     let none : words_of l.passes l.words (cell shared) ≡ 0 = let e = le-ltb 0 l.passes le in rw e refl in
-    absurd (cell_there (words_of l.passes l.words) shared (object_of (after l.passes l.view.past.seen) shared) (h.objects shared born) none))
+    absurd (cell_there (words_of l.passes l.words) shared (object_of (after l.passes l.view.past.seen) shared) (h.0.dictionaries h.1 shared born) none))
     (cases_lt 0 l.passes)
 
 -- each has a list of objects

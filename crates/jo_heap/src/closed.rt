@@ -24,6 +24,7 @@ pub struct Closed {
 }
 
 impl Model for Closed {
+    ghost use Rattle.std.specs.Prelude.{◌≡◌, false};
     ghost use Rattle.jo_rule.specs.Areas.{words_of};
     ghost use Rattle.jo_rule.specs.Ending.{HasEnded};
     ghost use Rattle.jo_heap.specs.Closing.{ClosedHeap};
@@ -32,7 +33,7 @@ impl Model for Closed {
 
     ghost view = { λ c. record { passes = c.left.passes; view = c.left.view } };
 
-    ghost invariant = { λ c. HasEnded c.left.passes (words_of c.left.passes c.left.words) c.left.view };
+    ghost invariant = { λ c. HasEnded c.left.passes (words_of c.left.passes c.left.words) c.left.view × (c.left.view.flat ≡ false) };
 }
 
 /// Ends a heap whose first pass has taken in each other.

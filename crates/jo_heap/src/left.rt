@@ -1,5 +1,5 @@
 // The words that a heap left, by name.
-ghost use Rattle.std.specs.Prelude.{◌≡◌};
+ghost use Rattle.std.specs.Prelude.{◌≡◌, false};
 ghost use Rattle.jo_rule.specs.Areas.{stored, words_of};
 ghost use Rattle.jo_rule.specs.Ending.{HasEnded, HasJoinedAll};
 ghost use Rattle.jo_rule.specs.Names.{cell};
@@ -35,6 +35,7 @@ impl Left {
         requires pass { IsPassOf heap pass }
         requires joined { HasJoinedAll pass.view }
         ensures words { (result.passes ≡ heap.passes) × (result.view ≡ pass.view) }
+        ensures dictionaries { result.view.flat ≡ false }
         ensures ended { HasEnded result.passes (words_of result.passes result.words) result.view }
     {
         let passes = heap.passes();

@@ -1,10 +1,13 @@
 -- What the rule gives when the first pass has taken in each other: one legal history, and the objects that it leaves.
-use Rattle.std.proofs.Common.{◌≡◌, ◌≢◌, ◌+◌, ◌<◌, ◌≤◌, ℕ, zero, suc, Bool, true, false, cond, eqb, List, [], ◌∷◌, refl, sym, ap, ◌∙◌, subst, ⊎_elim, arith, length, slice_get, Option, Some, None}
+use Rattle.std.proofs.Common.{◌≡◌, ◌≢◌, ◌+◌, ◌<◌, ◌≤◌, ℕ, zero, suc, Bool, true, false, cond, eqb, List, [], ◌∷◌, refl, sym, ap, ◌∙◌, subst, inl, inr, ⊎_elim, arith, length, slice_get, Option, Some, None}
 use mathlib.Core.Option.{some, some-injective}
 use lib.ListN.{get_elem?}
-use Rattle.std.proofs.lemmas.Bool.{cases_eq, cases_lt, cond_both, eqb-true, eqb-false, lt-ltb, le-ltb}
+use Rattle.std.proofs.lemmas.Bool.{both_ways, cases_eq, cases_lt, cond_both, eqb-true, eqb-false, lt-ltb, le-ltb}
 use Rattle.jo_value.specs.declared.value.ObjId.{ObjId}
 use Rattle.jo_value.specs.declared.words.cell.Cell.{Cell}
+use Rattle.jo_value.specs.declared.words.cell.Kind.{Kind}
+use Rattle.jo_value.specs.declared.words.cell.Kind.TheVariants.{Flat, Segmented, Opening, Dictionary}
+use Rattle.jo_model.specs.Objects.{Object}
 use Rattle.jo_model.specs.Heaps.{objects_of, object_of, IsBorn}
 use Rattle.jo_model.specs.Logs.{Log, changes_of, after, IsLawfulLog}
 use Rattle.jo_model.specs.Placed.{PlacedCall}
@@ -16,13 +19,16 @@ use Rattle.jo_rule.specs.Names.{cell}
 use Rattle.jo_rule.specs.Areas.{Words, stored}
 use Rattle.jo_rule.specs.Marks.{Mark}
 use Rattle.jo_rule.specs.Views.{View, Kept}
-use Rattle.jo_rule.specs.Dictionaries.{dictionary_header, HasProperties}
+use Rattle.jo_rule.specs.Dictionaries.{dictionary_header}
 use Rattle.jo_rule.specs.Histories.{ArePlacedIn, Home, HasItsEntries}
-use Rattle.jo_rule.specs.Contents.{word_of_cell, is_born, HasWords}
+use Rattle.jo_rule.specs.Spots.{Spot, offset, element, values}
+use Rattle.jo_rule.specs.Roles.{place_by, frame}
+use Rattle.jo_rule.specs.Contents.{word_of_cell, is_born, is_keyed, is_segmented, StandsAtPlaces, StandsAs}
 use Rattle.jo_rule.specs.Rule.{Rule}
-use Rattle.jo_rule.specs.Ending.{HasJoinedAll, kept_calls, calls_of_pass, listed, all_calls, HasEnded, IsWritten}
+use Rattle.jo_rule.specs.Ending.{HasJoinedAll, kept_calls, calls_of_pass, listed, all_calls, HasEnded, IsWritten, IsWrittenAtPlaces, IsLeft}
 use Rattle.jo_rule.proofs.Lists.{one_there, no_item}
-use Rattle.jo_rule.proofs.Contents.{standing_of, dictionary_of, so_far}
+use Rattle.jo_rule.proofs.Contents.{standing, dictionary_of}
+use Rattle.jo_rule.proofs.Layouts.{reads_frame}
 use Rattle.jo_rule.proofs.Passes.{none_by, nothing_placed}
 
 -- ---- lists by numbers
@@ -105,31 +111,75 @@ module _ {P : ℕ} {w : Words} {views : List View} (id : ℕ) (v : View) (r : Ru
       logged = subst (λ (x : Log Mark). IsLawfulLog P x) (sym saw_all) r.histories.lawful;
       each = λ t calls e. subst (IsPlacedBy P v.past.seen t) (listed_at P (calls_of_pass v) t calls e) (placed_pass t);
     };
+    node = r.node;
+    shape = r.shape;
+    shaped = r.shaped;
     objects = λ o born.
         let now : IsBorn (after P r.log) o = subst (λ (x : Log Mark). IsBorn (after P x) o) saw_all born in
         born_by o (r.cell o) refl (r.contents.born o ∙ lt-ltb o.serial (length (objects_of (after P r.log) o.pass)) now);
+    dictionaries = λ none_ o born.
+        let now : IsBorn (after P r.log) o = subst (λ (x : Log Mark). IsBorn (after P x) o) saw_all born in
+        plain_by (sym (r.allowed.agreed id v at l) ∙ none_) o (r.cell o) refl (r.contents.born o ∙ lt-ltb o.serial (length (objects_of (after P r.log) o.pass)) now);
     unborn = λ o none_.
         unborn_by o (r.cell o) refl (r.contents.born o ∙ le-ltb o.serial (length (objects_of (after P r.log) o.pass)) (⊎_elim
         (λ (lt : o.serial < length (objects_of (after P r.log) o.pass)). absurd (none_ (subst (λ (x : Log Mark). IsBorn (after P x) o) (sym saw_all) lt)))
         (λ (le : length (objects_of (after P r.log) o.pass) ≤ o.serial). le) (cases_lt o.serial (length (objects_of (after P r.log) o.pass)))));
   }
     where
-      born_by : (o : ObjId) (x : Option Cell) → r.cell o ≡ x → is_born x ≡ true → IsWritten w o (object_of (after P v.past.seen) o)
-      born_by o None e is = (let no : false ≡ true = is in absurd cc)
-      born_by o (Some c) e is =
-          let s = standing_of (r.cell o) c e (r.contents.stands o) in
-          let d = dictionary_of c.kind (so_far s) s.kind in
-          let free : c.locked ≡ false = unlocked o c e c.locked refl in record {
+      ended : (z z' : Object) → z ≡ z' → (o : ObjId) → IsLeft w r.shape o z → IsLeft w r.shape o z'
+      ended z z' e o h = subst (IsLeft w r.shape o) e h
+
+      saw_object : (o : ObjId) → object_of (after P r.log) o ≡ object_of (after P v.past.seen) o
+      saw_object o = ap (λ (x : Log Mark). object_of (after P x) o) (sym saw_all)
+
+      dictionary_left : (o : ObjId) (c : Cell) → r.cell o ≡ Some c → c.locked ≡ false → c.kind ≡ Dictionary → IsWritten w o (object_of (after P r.log) o)
+      dictionary_left o c e free kind =
+          let s = standing r.contents o c e in
+          let d = dictionary_of s kind in record {
             found = c;
             room = (r.now o).room;
             is_cell = s.cell;
             word = r.coded o ∙ ap word_of_cell e;
             unlocked = free;
+            kind = kind;
             capacity = d.capacity;
             header = r.contents.still c.address (dictionary_header (r.now o).room) d.header;
-            properties = subst (λ (x : Log Mark). HasProperties (λ k. stored w (c.address + k)) (r.now o).room (object_of (after P x) o)) (sym saw_all) (d.properties free);
-            words = subst (λ (x : Log Mark). HasWords (object_of (after P x) o)) (sym saw_all) (r.contents.words o);
+            properties = d.properties free;
+            words = r.contents.words o;
           }
+
+      places_left : (o : ObjId) (c : Cell) → r.cell o ≡ Some c → c.locked ≡ false → is_keyed c.kind ≡ true → (r.now o).segmented ≡ is_segmented c.kind → StandsAtPlaces (values w) r.role (r.shape c.sid) o c (r.now o) (object_of (after P r.log) o)
+          → IsWrittenAtPlaces w r.shape o (object_of (after P r.log) o)
+      places_left o c e free keyed sg t =
+          let s = standing r.contents o c e in
+          let reads : (y : Spot) → place_by (is_segmented c.kind) (stored w) o c.address y ≡ frame r.role (r.now o).segmented o c.address y = λ y. ap (λ (b : Bool). place_by b (stored w) o c.address y) (sym sg) ∙ reads_frame r.role (stored w) o c.address (r.now o).segmented r.contents.still t.block y in record {
+            found = c;
+            is_cell = s.cell;
+            word = r.coded o ∙ ap word_of_cell e;
+            unlocked = free;
+            kind = keyed;
+            names = t.keys.names;
+            inside = λ name j f g. t.keys.inside name j f (sym (reads (offset j)) ∙ g);
+            values = λ key y p f g. t.keys.values key y p f (sym (reads y) ∙ g);
+            beyond = λ i f. t.keys.beyond i (sym (reads (element i)) ∙ f);
+            words = r.contents.words o;
+          }
+
+      left_by : (o : ObjId) (c : Cell) → r.cell o ≡ Some c → c.locked ≡ false → (k : Kind) → c.kind ≡ k → StandsAs k (values w) r.role (r.shape c.sid) o c (r.now o) (object_of (after P r.log) o) → IsLeft w r.shape o (object_of (after P r.log) o)
+      left_by o c e free Flat is h = inr (places_left o c e free (ap is_keyed is) (h.0.segmented_is ∙ sym (ap is_segmented is)) h.1)
+      left_by o c e free Segmented is h = inr (places_left o c e free (ap is_keyed is) (h.0.segmented_is ∙ sym (ap is_segmented is)) h.1)
+      left_by o c e free Opening is h = absurd (both_ways c.locked free h.0)
+      left_by o c e free Dictionary is h = inl (dictionary_left o c e free is)
+
+      born_by : (o : ObjId) (x : Option Cell) → r.cell o ≡ x → is_born x ≡ true → IsLeft w r.shape o (object_of (after P v.past.seen) o)
+      born_by o None e is = (let no : false ≡ true = is in absurd cc)
+      born_by o (Some c) e is =
+          let free : c.locked ≡ false = unlocked o c e c.locked refl in
+          ended (object_of (after P r.log) o) (object_of (after P v.past.seen) o) (saw_object o) o (left_by o c e free c.kind refl (standing r.contents o c e).kind)
+
+      plain_by : r.allowed.flat ≡ false → (o : ObjId) (x : Option Cell) → r.cell o ≡ x → is_born x ≡ true → IsWritten w o (object_of (after P v.past.seen) o)
+      plain_by none_ o None e is = (let no : false ≡ true = is in absurd cc)
+      plain_by none_ o (Some c) e is = subst (IsWritten w o) (saw_object o) (dictionary_left o c e (unlocked o c e c.locked refl) (r.allowed.dictionaries none_ o c e).kind)
 
       unborn_by : (o : ObjId) (x : Option Cell) → r.cell o ≡ x → is_born x ≡ false → w (cell o) ≡ 0
       unborn_by o None e is = r.coded o ∙ ap word_of_cell e

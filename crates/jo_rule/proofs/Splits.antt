@@ -1,9 +1,21 @@
 -- A pass is made, and a pass is joined: the rule is kept.
-use Rattle.std.proofs.Common.{◌≡◌, ◌≢◌, ◌+◌, ◌<◌, ℕ, true, List, [], ◌∷◌, ◌++◌, refl, sym, ap, ◌∙◌, arith, length, set, length-set, None}
+use Rattle.std.proofs.Common.{◌≡◌, ◌≢◌, ◌+◌, ◌<◌, ℕ, true, List, [], ◌∷◌, ◌++◌, refl, sym, ap, ◌∙◌, arith, length, set, length-set, Some, None}
 use mathlib.Core.Option.{some}
 use lib.ListN.{get_elem?}
 use Rattle.jo_model.specs.Logs.{after}
-use Rattle.jo_rule.specs.Areas.{Words, nodes, stored, set_number}
+use Rattle.jo_model.specs.Heaps.{objects_of}
+use Rattle.jo_rule.specs.Names.{epoch}
+use Rattle.jo_rule.specs.Areas.{Words, acknowledgements, nodes, stored, set_number}
+use Rattle.jo_rule.specs.Spots.{values}
+use Rattle.jo_rule.specs.Contents.{Now}
+use Rattle.jo_rule.specs.Sights.{watched, ViewIsSighted}
+use Rattle.jo_rule.proofs.Contents.{unborn_state, unborn_cell}
+use Rattle.jo_rule.proofs.Sights.{sighted_nothing}
+use Rattle.jo_rule.specs.Timing.{ViewIsTimed}
+use Rattle.jo_rule.specs.Allowed.{SaysSo}
+use Rattle.jo_rule.specs.Lasting.{KnowsLasting}
+use Rattle.jo_rule.proofs.Timing.{timed_new}
+use Rattle.std.proofs.lemmas.Bool.{le-ltb}
 use Rattle.jo_rule.specs.Views.{View}
 use Rattle.jo_rule.specs.Histories.{home_at}
 use Rattle.jo_rule.specs.Owned.{StorageIsOwn, ObjectsAreOwn, StructuresAreOwn}
@@ -28,16 +40,24 @@ module _ {P : ℕ} {w : Words} {views : List View} (id : ℕ) (v : View) (r : Ru
       let O = ObjectsAreOwn heap in
       let T = StructuresAreOwn (nodes w) in
       let G = HoldsItsLock (stored w) r.cell r.now heap r.locks.holder in
+      let V = ViewIsSighted P (w epoch) (values w) r.cell r.shape r.role r.now (watched w) r.log r.sights.floor r.sights.sealed r.sights.firer in
+      let K = KnowsLasting r.node r.role in
+      let W = ViewIsTimed (w epoch) (acknowledgements w) in
+      let A = SaysSo r.allowed.flat in
       let m = r.unmade in record {
         log = r.log;
         made = r.made + 1;
         home = set_number r.home r.made (home_at n 0);
+        node = r.node;
+        shape = r.shape;
         cell = r.cell;
         role = r.role;
         now = r.now;
+        so = r.so;
         placements = split_placements views id v at l r.placements;
         histories = split_histories views id v at l first room r.histories;
         coded = r.coded;
+        shaped = r.shaped;
         contents = r.contents;
         owned = record {
           storage = live_more S (set views id a) b n long (live_same S views id a r.owned.storage (r.owned.storage id v at l))
@@ -64,6 +84,24 @@ module _ {P : ℕ} {w : Words} {views : List View} (id : ℕ) (v : View) (r : Ru
           storage = λ t k le lt lk. m.storage t k (omega arith) lt lk;
           objects = λ t le. m.objects t (omega arith);
         };
+        sights = record {
+          floor = r.sights.floor;
+          sealed = r.sights.sealed;
+          firer = r.sights.firer;
+          each = live_more V (set views id a) b n long (live_same V views id a r.sights.each (r.sights.each id v at l))
+              (λ _. sighted_nothing P (w epoch) (values w) r.cell r.shape r.role r.now (watched w) r.log r.sights.floor r.sights.sealed r.sights.firer n v.made
+              (λ o j e. ap (λ (z : Now). z.stamps j) (unborn_state r.contents o (unborn_cell (r.cell o) (r.contents.born o ∙ le-ltb o.serial (length (objects_of heap o.pass)) (let none_ = m.objects o.pass (omega arith) in omega arith))))));
+          floors = r.sights.floors;
+          few = r.sights.few;
+          states = r.sights.states;
+          unsealed = r.sights.unsealed;
+        };
+        born_so = r.born_so;
+        marked = r.marked;
+        allowed = record { flat = r.allowed.flat; agreed = live_more A (set views id a) b n long (live_same A views id a r.allowed.agreed (r.allowed.agreed id v at l)) (λ _. r.allowed.agreed id v at l); dictionaries = r.allowed.dictionaries };
+        timing = record { timed = live_more W (set views id a) b n long (live_same W views id a r.timing.timed (r.timing.timed id v at l)) (λ _. timed_new (w epoch) (acknowledgements w) v.made b.time refl refl refl refl (m.out v.made (omega arith) room)) };
+        lasting = record { known = live_more K (set views id a) b n long (live_same K views id a r.lasting.known (r.lasting.known id v at l)) (λ _ name word e. (let no : None ≡ Some word = e in absurd cc)) };
+        counted = r.counted;
       }
 
   -- a pass takes in another that holds no lock
@@ -74,16 +112,24 @@ module _ {P : ℕ} {w : Words} {views : List View} (id : ℕ) (v : View) (r : Ru
       let S = StorageIsOwn (stored w) r.role in
       let O = ObjectsAreOwn heap in
       let T = StructuresAreOwn (nodes w) in
+      let V = ViewIsSighted P (w epoch) (values w) r.cell r.shape r.role r.now (watched w) r.log r.sights.floor r.sights.sealed r.sights.firer in
+      let K = KnowsLasting r.node r.role in
+      let W = ViewIsTimed (w epoch) (acknowledgements w) in
+      let A = SaysSo r.allowed.flat in
       let G = HoldsItsLock (stored w) r.cell r.now heap r.locks.holder in record {
         log = r.log;
         made = r.made;
         home = home_joined r.home id other (length v.kept);
+        node = r.node;
+        shape = r.shape;
         cell = r.cell;
         role = r.role;
         now = r.now;
+        so = r.so;
         placements = join_placements views id other v u at at' ne l lu r.histories r.placements;
         histories = join_histories views id other v u at at' ne l lu r.histories r.placements;
         coded = r.coded;
+        shaped = r.shaped;
         contents = r.contents;
         owned = record {
           storage = live_joined S S views id other both spent_view refl r.owned.storage (λ j y n m e ly h. h) (r.owned.storage id v at l);
@@ -101,4 +147,20 @@ module _ {P : ℕ} {w : Words} {views : List View} (id : ℕ) (v : View) (r : Ru
         };
         unborn = r.unborn;
         unmade = r.unmade;
+        sights = record {
+          floor = r.sights.floor;
+          sealed = r.sights.sealed;
+          firer = r.sights.firer;
+          each = live_joined V V views id other both spent_view refl r.sights.each (λ j y n m e ly h. h) (r.sights.each id v at l);
+          floors = r.sights.floors;
+          few = r.sights.few;
+          states = r.sights.states;
+          unsealed = r.sights.unsealed;
+        };
+        born_so = r.born_so;
+        marked = r.marked;
+        allowed = record { flat = r.allowed.flat; agreed = live_joined A A views id other both spent_view refl r.allowed.agreed (λ j y n m e ly h. h) (r.allowed.agreed id v at l); dictionaries = r.allowed.dictionaries };
+        timing = record { timed = live_joined W W views id other both spent_view refl r.timing.timed (λ j y n m e ly h. h) (r.timing.timed id v at l) };
+        lasting = record { known = live_joined K K views id other both spent_view refl r.lasting.known (λ j y n m e ly h. h) (r.lasting.known id v at l) };
+        counted = r.counted;
       }

@@ -23,23 +23,26 @@ use Rattle.jo_rule.specs.Views.{View, Lock, word_in}
 use Rattle.jo_rule.specs.Events.{changes, recorded, MayPlace}
 use Rattle.jo_rule.specs.Dictionaries.{block_size, dictionary_header}
 use Rattle.jo_rule.specs.Histories.{Begins}
-use Rattle.jo_rule.specs.Contents.{unnamed, fixed, dictionary, word_of_cell, is_born}
+use Rattle.jo_rule.specs.Contents.{unnamed, fixed, value, dictionary, word_of_cell, is_born}
 use Rattle.jo_rule.specs.Owned.{address_of}
 use Rattle.jo_rule.specs.Rule.{Rule}
 use Rattle.jo_rule.specs.Steps.{looking, placing, filling, writing}
 use Rattle.jo_model.proofs.ValidEdits.{within_most}
 use Rattle.jo_rule.proofs.Heaps.{born-longer, within_passes, passes-after, formed-after}
-use Rattle.jo_rule.proofs.Histories.{SameNumbers, SawMore, begins_itself, alone}
+use Rattle.jo_rule.proofs.Histories.{SameItems, SawMore, begins_itself, alone, numbers}
 use Rattle.jo_rule.proofs.Events.{event_refuses}
-use Rattle.jo_rule.proofs.Contents.{standing_of, dictionary_of, so_far}
+use Rattle.jo_rule.proofs.Contents.{standing, standing_dictionary}
 use Rattle.jo_rule.proofs.Owned.{owns_stored, owns_else, other_storage}
 use Rattle.jo_rule.proofs.Locks.{same_locks, writes_locks, one_holder}
-use Rattle.jo_rule.proofs.Moves.{block_roles, held_else, looks, looks_event, stores}
+use Rattle.jo_rule.proofs.Moves.{block_roles, held_else, looks, looks_event, stores, stores_else, cases_place}
+use Rattle.jo_rule.proofs.Sights.{sighted_store, sighted_lock}
+use Rattle.jo_rule.proofs.Lists.{same_item}
+use Rattle.jo_rule.specs.Spots.{Spot, stored_at}
 use Rattle.jo_rule.proofs.Sets.{number_here, number_else}
 
 -- only the past and counts of a view change
-pub numbers_of : (v u : View) → v.live ≡ u.live → v.number ≡ u.number → v.made ≡ u.made → v.kept ≡ u.kept → SameNumbers v u
-numbers_of v u live number made kept = record { live = live; number = number; made = made; kept = kept }
+pub numbers_of : (v u : View) → v.live ≡ u.live → v.number ≡ u.number → v.made ≡ u.made → v.kept ≡ u.kept → v.lasting ≡ u.lasting → v.flat ≡ u.flat → SameItems v u
+numbers_of v u live number made kept lasting flat = record { live = live; number = number; made = made; kept = kept; lasting = lasting; flat = flat }
 
 -- the pass has seen of the log what it had
 pub saw_same : (log : Log Mark) (v u : View) → Begins log v.past.seen → v.past ≡ u.past → SawMore log v u
@@ -53,15 +56,15 @@ born_cell_by {A} (Some c) e f = f c refl
 module _ {P : ℕ} {w : Words} {views : List View} (id : ℕ) (v : View) (r : Rule P w views) (at : get_elem? views id ≡ some v) (l : v.live ≡ true) where
   -- a load shows the whole log, or as much of it as the pass says
   pub loads : (seen : Log Mark) (counts : Counts) → Begins seen v.past.seen → Begins r.log seen → Rule P w (set views id (looking v seen counts))
-  loads seen counts more within = looks id v (looking v seen counts) r at l (numbers_of v (looking v seen counts) refl refl refl refl) (record { calls = refl; more = more; seen = within }) refl refl refl refl
+  loads seen counts more within = looks id v (looking v seen counts) r at l (numbers_of v (looking v seen counts) refl refl refl refl refl refl) (record { calls = refl; more = more; seen = within }) refl refl refl refl (r.sights.each id v at l) (r.timing.timed id v at l)
 
-  -- what a load of the cell of an object finds that is born in what was seen: the word of a cell, which is a dictionary's
-  pub finds_cell : (o : ObjId) → IsBorn (after P v.past.seen) o → (c : Cell) × IsCell c × (w (cell o) ≡ cell_bits c) × (c.kind ≡ Dictionary)
+  -- what a load of the cell of an object finds that is born in what was seen: the word of a cell, whose owner is the pass that made it
+  pub finds_cell : (o : ObjId) → IsBorn (after P v.past.seen) o → (c : Cell) × IsCell c × (w (cell o) ≡ cell_bits c) × (c.owner ≡ o.pass)
   finds_cell o born =
       let seen = r.histories.seen id v at l in
       let now : IsBorn (after P r.log) o = subst (λ (x : Log Mark). IsBorn (after P x) o) (sym seen.1) (born-longer P v.past.seen seen.0 o born) in
       born_cell_by (r.cell o) (r.contents.born o ∙ lt-ltb o.serial (length (objects_of (after P r.log) o.pass)) now)
-      (λ c e. let s = standing_of (r.cell o) c e (r.contents.stands o) in (c, s.cell, r.coded o ∙ ap word_of_cell e, so_far s))
+      (λ c e. let s = standing r.contents o c e in (c, s.cell, r.coded o ∙ ap word_of_cell e, s.owner))
 
   -- what a load of an own word finds that no cell has named, and one of a word of a held block
   pub reads_own : (k : ℕ) → v.storage.named ≤ k → k < MOST_STORAGE → w (storage (address_of v.number k)) ≡ word_in v.storage.fresh k
@@ -106,13 +109,13 @@ module _ {P : ℕ} {w : Words} {views : List View} (id : ℕ) (v : View) (r : Ru
       let still : changes (after P r.log) v.number call.New ≡ false = rw spent refl in
       let stays : recorded P v.number (Place call.New) r.log ≡ r.log = ap (λ (b : Bool). if b then r.log ++ change v.number call.New ∷ [] else r.log) still in
       let u = placing P v (Place call.New) r.log counts in
-      looks_event id v u r at l (numbers_of v u refl refl refl refl) (Place call.New) (λ c spent e. (let no : Place call.New ≡ Refuse c spent = e in absurd cc)) stays refl refl refl refl refl
+      looks_event id v u r at l (numbers_of v u refl refl refl refl refl refl) (Place call.New) (λ c spent e. (let no : Place call.New ≡ Refuse c spent = e in absurd cc)) stays refl refl refl refl refl (r.sights.each id v at l) (r.timing.timed id v at l)
 
   -- a load that places a call which is refused for want of storage
   pub refuses_spent : (c : Call) (spent : Spent) (counts : Counts) → MayPlace P v (Refuse c spent) → Rule P w (set views id (placing P v (Refuse c spent) r.log counts))
   refuses_spent c spent counts may =
       let u = placing P v (Refuse c spent) r.log counts in
-      looks_event id v u r at l (numbers_of v u refl refl refl refl) (Refuse c spent) (event_refuses P v (Refuse c spent) r.log (r.histories.own id v at l) may) refl refl refl refl refl refl
+      looks_event id v u r at l (numbers_of v u refl refl refl refl refl refl) (Refuse c spent) (event_refuses P v (Refuse c spent) r.log (r.histories.own id v at l) may) refl refl refl refl refl refl (r.sights.each id v at l) (r.timing.timed id v at l)
 
   -- a word of the own storage is stored that no cell has named
   pub fills : (k x : ℕ) (counts : Counts) → v.storage.named ≤ k → k < MOST_STORAGE → Rule P (put w (storage (address_of v.number k)) x) (set views id (filling v k x counts))
@@ -121,19 +124,22 @@ module _ {P : ℕ} {w : Words} {views : List View} (id : ℕ) (v : View) (r : Ru
       let a = address_of v.number k in
       let own = r.owned.storage id v at l in
       let free : r.role a ≡ unnamed = own.nameless k from to in
-      let same = numbers_of v u refl refl refl refl in
+      let same = numbers_of v u refl refl refl refl refl refl in
       let lt = (r.histories.seated id v at l).own.1 in
       let loose : (word : ℕ) → r.role a ≢ fixed word = λ word e. (let no : unnamed ≡ fixed word = sym free ∙ e in absurd cc) in
+      let no_value : (o : ObjId) (y : Spot) → r.role a ≢ value o y = λ o y e. (let no : unnamed ≡ value o y = sym free ∙ e in cc) in
       let no_words : (o : ObjId) → r.role a ≢ dictionary o = λ o e. (let no : unnamed ≡ dictionary o = sym free ∙ e in absurd cc) in
       stores id v u r at l same a x (saw_same r.log v u (r.histories.seen id v at l) refl) refl refl
       record {
         loose = loose;
         held = λ o c e f. absurd (no_words o f);
-        others = λ j y n e ly i li f. other_storage y.number v.number i k (λ g. alone views id v u at l same r.histories j y n e ly (sym g)) li to;
+        no_value = no_value;
+        others = λ j y n e ly i li f. other_storage y.number v.number i k (λ g. alone views id v u at l (numbers same) r.histories j y n e ly (sym g)) li to;
         unmade = λ t i le lp li f. other_storage t v.number i k (λ g. omega arith) li to;
       }
       (owns_stored own k x from to)
       (same_locks views id v u at l l refl (λ j y e ly g f s i li. held_else r j y e ly g f a x loose (no_words g.object) s i li) r.locks)
+      (sighted_store (r.sights.each id v at l) (stored_at a) r.contents.words (λ q. cases_place q (stored_at a)) (stores_else w a x) no_value) (r.timing.timed id v at l)
 
   -- a word of the block of the held dictionary is stored, behind its header
   pub writes : (g : Lock) (k x : ℕ) (counts : Counts) → v.lock ≡ Some g → g.cell.kind ≡ Dictionary → 0 < k → k < block_size g.room → Rule P (put w (storage (g.cell.address + k)) x) (set views id (writing v g k x counts))
@@ -142,17 +148,19 @@ module _ {P : ℕ} {w : Words} {views : List View} (id : ℕ) (v : View) (r : Ru
       let u = writing v g k x counts in
       let a = g.cell.address + k in
       let t = r.locks.held id v at l g held in
-      let d = dictionary_of g.cell.kind kind (standing_of (r.cell g.object) g.cell t.cell (r.contents.stands g.object)).kind in
+      let d = standing_dictionary r.contents g.object g.cell t.cell kind in
       let role_is : r.role a ≡ dictionary g.object = d.words k from (subst (λ (m : ℕ). k < block_size m) (sym t.room) to) in
       let loose : (word : ℕ) → r.role a ≢ fixed word = λ word e. (let no : dictionary g.object ≡ fixed word = sym role_is ∙ e in absurd cc) in
       let named : r.role a ≢ unnamed = λ e. (let no : dictionary g.object ≡ unnamed = sym role_is ∙ e in absurd cc) in
+      let no_value : (o : ObjId) (y : Spot) → r.role a ≢ value o y = λ o y e. (let no : dictionary g.object ≡ value o y = sym role_is ∙ e in cc) in
       let whose : (o : ObjId) → r.role a ≡ dictionary o → g.object ≡ o = λ o e. (let both : dictionary g.object ≡ dictionary o = sym role_is ∙ e in cc) in
-      let same = numbers_of v u refl refl refl refl in
+      let same = numbers_of v u refl refl refl refl refl refl in
       let size = t.size kind in
       stores id v u r at l same a x (saw_same r.log v u (r.histories.seen id v at l) refl) refl refl
       record {
         loose = loose;
         held = λ o c e f. let cell_is : Some g.cell ≡ Some c = sym t.cell ∙ (ap r.cell (whose o f) ∙ e) in let one : g.cell ≡ c = cc in ap (λ (y : Cell). y.locked) (sym one) ∙ t.bit;
+        no_value = no_value;
         others = λ j y n e ly i li f. absurd (named f);
         unmade = λ t i le lp li f. absurd (named f);
       }
@@ -175,3 +183,5 @@ module _ {P : ℕ} {w : Words} {views : List View} (id : ℕ) (v : View) (r : Ru
             ∙ sym (ap (λ (z : ℕ). get_or (set g.block k x) z 0) e ∙ get_or-set_same g.block k x 0 (omega arith)))
             (λ (n : i ≢ k). number_else (stored w) a (g.cell.address + i) x (λ f. n (omega arith)) ∙ (t.block s i li ∙ sym (get_or-set_other g.block k i x 0 n))) (cases_eq i k);
       })
+      (sighted_lock (sighted_store (r.sights.each id v at l) (stored_at a) r.contents.words (λ q. cases_place q (stored_at a)) (stores_else w a x) no_value)
+      (λ h f. let same_lock : g ≡ h = same_item g h v.lock held f in (g', refl, ap (λ (z : Lock). z.object) same_lock, ap (λ (z : Lock). z.cell) same_lock))) (r.timing.timed id v at l)

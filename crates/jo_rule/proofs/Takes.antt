@@ -17,6 +17,7 @@ use Rattle.jo_rule.specs.declared.event.Event.{Event}
 use Rattle.jo_rule.specs.declared.event.Event.TheVariants.{Nothing, Refuse}
 use Rattle.jo_rule.specs.Names.{cell}
 use Rattle.jo_rule.specs.Areas.{Words, put, stored, set_object}
+use Rattle.jo_rule.specs.Spots.{values}
 use Rattle.jo_rule.specs.Views.{View, Lock, Storage}
 use Rattle.jo_rule.specs.Events.{recorded, object_after_event}
 use Rattle.jo_rule.specs.Dictionaries.{block_size, dictionary_header, HasProperties}
@@ -30,10 +31,15 @@ use Rattle.jo_model.proofs.ValidEdits.{object_valid}
 use Rattle.jo_rule.proofs.Heaps.{formed-after}
 use Rattle.jo_rule.proofs.Lists.{set_there, same_item, no_item}
 use Rattle.jo_rule.proofs.Events.{event_touches, event_valid, event_refuses, event_words}
-use Rattle.jo_rule.proofs.Contents.{standing_of, dictionary_of, as_dictionary, same_properties}
+use Rattle.jo_rule.proofs.Contents.{standing, dictionary_of, as_dictionary, same_properties}
 use Rattle.jo_rule.proofs.Locks.{moves_locks, one_holder}
 use Rattle.jo_rule.proofs.Naming.{named_roles, named_grows, named_still, named_inside, named_elsewhere, named_own, named_stands}
-use Rattle.jo_rule.proofs.Moves.{RolesGrow, found_cell, born_of, still_born, moves, looks}
+use Rattle.jo_rule.proofs.Moves.{RolesGrow, found_cell, born_of, still_born, moves, looks, pins_absent, no_pins_settled}
+use Rattle.jo_rule.proofs.Sights.{sighted_dropped, stamps_kept}
+use Rattle.jo_rule.proofs.Marked.{born_so_cell, born_so_event}
+use Rattle.jo_rule.proofs.Timing.{timed_dropped}
+use Rattle.jo_rule.specs.Contents.{is_dictionary}
+use Rattle.jo_rule.proofs.Counted.{counts_dictionary, event_elsewhere}
 use Rattle.jo_rule.proofs.Sets.{object_here, object_else}
 use Rattle.jo_rule.proofs.Stores.{numbers_of, saw_same}
 
@@ -69,7 +75,7 @@ module _ {P : ℕ} {w : Words} {views : List View} (id : ℕ) (v : View) (r : Ru
   -- a pass that holds no lock tries to take one where it expects an unlocked dictionary, and the exchange finds another word
   pub loses : (o : ObjId) (expected : Cell) (counts : Counts) → MayTry v expected → w (cell o) ≢ cell_bits expected → Rule P w (set views id (losing v o expected counts))
   loses o expected counts may other =
-      looks id v (losing v o expected counts) r at l (numbers_of v (losing v o expected counts) refl refl refl refl) (saw_same r.log v (losing v o expected counts) (r.histories.seen id v at l) refl) refl refl refl refl
+      looks id v (losing v o expected counts) r at l (numbers_of v (losing v o expected counts) refl refl refl refl refl refl) (saw_same r.log v (losing v o expected counts) (r.histories.seen id v at l) refl) refl refl refl refl (r.sights.each id v at l) (r.timing.timed id v at l)
 
   -- what the holder of a lock knows is the object after the log
   pub holds_content : (g : Lock) → v.lock ≡ Some g → g.settled ≡ true → object_of (after P r.log) g.object ≡ g.content
@@ -86,8 +92,8 @@ module _ {P : ℕ} {w : Words} {views : List View} (id : ℕ) (v : View) (r : Ru
       let kind = may.kind in
       let free = may.free in
       let e = found_cell r o c word is in
-      let s = standing_of (r.cell o) c e (r.contents.stands o) in
-      let d = dictionary_of c.kind kind s.kind in
+      let s = standing r.contents o c e in
+      let d = dictionary_of s kind in
       let content = object_of (after P r.log) o in
       let room = (r.now o).room in
       let block = words_read (block_size room) (λ k. stored w (c.address + k)) in
@@ -96,18 +102,19 @@ module _ {P : ℕ} {w : Words} {views : List View} (id : ℕ) (v : View) (r : Ru
       let g = taken_lock o c content room block since in
       let u = locking v r.log g c counts in
       let c' = locked_cell c in
-      let same = numbers_of v u refl refl refl refl in
+      let same = numbers_of v u refl refl refl refl refl refl in
       let holder = set_object r.locks.holder o id in (
         content,
         room,
         block,
         since,
-        moves id v u r at l same Nothing o c' (r.now o) r.role (λ call spent f. (let no : Nothing ≡ Refuse call spent = f in absurd cc)) refl (same_roles r.contents.inside) (record { others = λ q n. refl; lengths = λ p n. refl; words = r.contents.words o; valid = r.contents.valid })
+        moves id v u r at l same Nothing o c' (r.now o) r.role (λ f. record { kind = kind; structure = (r.allowed.dictionaries f o c e).structure }) (λ call spent f. (let no : Nothing ≡ Refuse call spent = f in absurd cc)) refl (same_roles r.contents.inside) (record { others = λ q n. refl; lengths = λ p n. refl; words = r.contents.words o; valid = r.contents.valid })
             record {
               cell = record { sid = is.sid; address = is.address; owner = is.owner };
               structure = s.structure;
+              root = s.root;
               owner = s.owner;
-              kind = as_dictionary c.kind kind record { settled = d.settled; capacity = d.capacity; header = d.header; words = d.words; properties = λ f. (let no : true ≡ false = f in absurd cc) };
+              kind = as_dictionary c.kind (values w) (r.shape c.sid) kind record { settled = d.settled; capacity = d.capacity; header = d.header; words = d.words; properties = λ f. (let no : true ≡ false = f in absurd cc) };
             } (λ q. still_born r o c c' e q ∙ r.contents.born q) (r.owned.storage id v at l) (r.owned.objects id v at l) refl
             (moves_locks views id v u at l l o c' (r.now o) holder r.locks (λ q n. object_else r.locks.holder o q id n) (λ q n. refl) (λ j y n f ly h k. nobody o c e free j y f ly h k)
             (λ h f. subst (IsHeld (stored w) (set_object r.cell o (Some c')) (set_object r.now o (r.now o)) (after P r.log) holder id) (let both : Some g ≡ Some h = f in let one : g ≡ h = cc in one) record {
@@ -123,7 +130,9 @@ module _ {P : ℕ} {w : Words} {views : List View} (id : ℕ) (v : View) (r : Ru
               block = λ z k lt. sym (read k lt);
             })
             (λ q n h f same'. absurd (no_item h v.lock none_held f))
-            (λ b. record { view = u; lock = g; there = ap (get_elem? (set views id u)) (object_here r.locks.holder o id) ∙ set_there views id v u at; live = l; held = refl; object = refl })),
+            (λ b. record { view = u; lock = g; there = ap (get_elem? (set views id u)) (object_here r.locks.holder o id) ∙ set_there views id v u at; live = l; held = refl; object = refl }))
+            (pins_absent r id o c' (r.now o) r.role (no_pins_settled r o d.settled) (λ i. refl)) (sighted_dropped (r.sights.each id v at l) v.quarantine (stamps_kept (r.sights.each id v at l) o (r.now o) (λ i. refl)))
+            r.so (born_so_cell r.born_so o c' c e refl) (λ h. r.marked.shared o c e h) (counts_dictionary o r.shape c' (ap is_dictionary kind) (λ q n. (refl, refl))) (timed_dropped (r.timing.timed id v at l)),
         record {
           left = refl;
           properties = same_properties (λ k. stored w (c.address + k)) (slice_index block) room content (λ k lo hi. read k hi) (d.properties free);
@@ -147,18 +156,18 @@ module _ {P : ℕ} {w : Words} {views : List View} (id : ℕ) (v : View) (r : Ru
       let may = goes.may in
       let o = g.object in
       let t = r.locks.held id v at l g held in
-      let s = standing_of (r.cell o) g.cell t.cell (r.contents.stands o) in
-      let d = dictionary_of g.cell.kind kind s.kind in
+      let s = standing r.contents o g.cell t.cell in
+      let d = dictionary_of s kind in
       let c' = unlocked_cell g.cell address in
       let now' : Now = record (r.now o) { room = room } in
       let u = releasing P v event r.log own counts in
-      let same = numbers_of v u refl refl refl refl in
+      let same = numbers_of v u refl refl refl refl refl refl in
       let log' = recorded P v.number event r.log in
       let touch = event_touches P v.number event r.log o on (born_of r o g.cell t.cell) in
       let left : object_of (after P log') o ≡ object_after_event event g.content = touch.here ∙ ap (object_after_event event) (t.content (sym t.settled ∙ d.settled)) in
       let lt = (r.histories.seated id v at l).own.1 in
       let few = r.histories.few in
-      moves id v u r at l same event o c' now' role (event_refuses P v event r.log (r.histories.own id v at l) may) refl roles
+      moves id v u r at l same event o c' now' role (λ f. record { kind = kind; structure = (r.allowed.dictionaries f o g.cell t.cell).structure }) (event_refuses P v event r.log (r.histories.own id v at l) may) refl roles
       record {
         others = touch.others;
         lengths = λ p n. touch.lengths p;
@@ -168,12 +177,15 @@ module _ {P : ℕ} {w : Words} {views : List View} (id : ℕ) (v : View) (r : Ru
       record {
         cell = is;
         structure = s.structure;
+        root = s.root;
         owner = s.owner;
-        kind = as_dictionary g.cell.kind kind (subst (StandsAsDictionary (stored w) role o c' now') (sym left) stands);
+        kind = as_dictionary g.cell.kind (values w) (r.shape g.cell.sid) kind (subst (StandsAsDictionary (stored w) role o c' now') (sym left) stands);
       } (λ q. still_born r o g.cell c' t.cell q ∙ (r.contents.born q ∙ ap (nat_lt q.serial) (sym (touch.lengths q.pass))))
       owns (r.owned.objects id v at l ∙ sym (touch.lengths v.number)) refl
       (moves_locks views id v u at l l o c' now' r.locks.holder r.locks (λ q n. refl) touch.others (λ j y n f ly h k. one_holder views id v u at l l r.locks j y n f ly g h held k)
       (λ h f. (let no : None ≡ Some h = f in absurd cc)) (λ q n h f e. absurd (n (sym e ∙ ap (λ (x : Lock). x.object) (sym (same_item g h v.lock held f))))) (λ b. (let no : false ≡ true = b in absurd cc)))
+      (pins_absent r id o c' now' role (no_pins_settled r o d.settled) (λ i. refl)) (sighted_dropped (r.sights.each id v at l) v.quarantine (stamps_kept (r.sights.each id v at l) o now' (λ i. refl)))
+      r.so (born_so_event P v.number event r.log (born_so_cell r.born_so o c' g.cell t.cell refl)) (λ h. r.marked.shared o g.cell t.cell h) (counts_dictionary o r.shape c' (ap is_dictionary kind) (λ q n. event_elsewhere P v.number r.log event o q on n)) (timed_dropped (r.timing.timed id v at l))
 
   -- in the block that was held, whose words have the properties that the event left
   pub releases : (g : Lock) (event : Event) (counts : Counts) → MayLetGo P v g event → HasProperties (slice_index g.block) g.room (object_after_event event g.content)
@@ -183,8 +195,8 @@ module _ {P : ℕ} {w : Words} {views : List View} (id : ℕ) (v : View) (r : Ru
       let kind = goes.kind in
       let o = g.object in
       let t = r.locks.held id v at l g held in
-      let s = standing_of (r.cell o) g.cell t.cell (r.contents.stands o) in
-      let d = dictionary_of g.cell.kind kind s.kind in
+      let s = standing r.contents o g.cell t.cell in
+      let d = dictionary_of s kind in
       let room : (r.now o).room ≡ g.room = t.room in
       releases_by g event g.cell.address g.room r.role v.storage counts goes (record { sid = s.cell.sid; address = s.cell.address; owner = s.cell.owner }) (same_roles r.contents.inside) (r.owned.storage id v at l)
       record {
@@ -208,11 +220,11 @@ module _ {P : ℕ} {w : Words} {views : List View} (id : ℕ) (v : View) (r : Ru
       let has = filled.properties in
       let o = g.object in
       let t = r.locks.held id v at l g held in
-      let s = standing_of (r.cell o) g.cell t.cell (r.contents.stands o) in
+      let s = standing r.contents o g.cell t.cell in
       let own = r.owned.storage id v at l in
       let lt = (r.histories.seated id v at l).own.1 in
       let few = r.histories.few in
       let all = own.used in
       let c' = unlocked_cell g.cell (address_of v.number k) in
       releases_by g event (address_of v.number k) room (named_roles r.role (address_of v.number k) room o) (naming v.storage k (block_size room)) counts goes (record { sid = s.cell.sid; address = omega arith; owner = s.cell.owner })
-      (record { grows = named_grows own o k room from to; still = named_still own o k room from to head; inside = named_inside own o k room from to P (omega arith) r.contents.inside; elsewhere = named_elsewhere own o k room from to }) (named_own own o k room from to) (named_stands own o k room from to c' (r.now o) (object_after_event event g.content) (dictionary_of g.cell.kind kind s.kind).settled capacity refl has)
+      (record { grows = named_grows own o k room from to; still = named_still own o k room from to head; inside = named_inside own o k room from to P (omega arith) r.contents.inside; elsewhere = named_elsewhere own o k room from to }) (named_own own o k room from to) (named_stands own o k room from to c' (r.now o) (object_after_event event g.content) (dictionary_of s kind).settled capacity refl has)

@@ -1,5 +1,5 @@
 -- What is known at the end, when the first pass has taken in each other.
-use Rattle.std.specs.Prelude.{◌≡◌, ℕ, ◌+◌, ◌<◌, ◌==◌, zero, suc, if◌then◌else◌, List, [], ◌∷◌, None, ◌≤◌, false}
+use Rattle.std.specs.Prelude.{◌≡◌, ◌≢◌, ◌⊎◌, true, map, Option, Some, ℕ, ◌+◌, ◌<◌, ◌==◌, zero, suc, if◌then◌else◌, List, [], ◌∷◌, None, ◌≤◌, false}
 use mathlib.Core.Option.{some}
 use lib.ListN.{get_elem?}
 use Rattle.jo_value.specs.declared.value.ObjId.{ObjId}
@@ -10,7 +10,20 @@ use Rattle.jo_model.specs.Logs.{after}
 use Rattle.jo_model.specs.Placed.{PlacedCall}
 use Rattle.jo_model.specs.Joined.{ArePlaced}
 use Rattle.jo_rule.specs.Names.{cell}
-use Rattle.jo_rule.specs.Areas.{Words, stored}
+use Rattle.jo_value.specs.declared.value.Key.{Key}
+use Rattle.jo_value.specs.declared.value.Key.TheVariants.{Index}
+use Rattle.jo_value.specs.declared.value.NameId.{NameId}
+use Rattle.jo_value.specs.declared.value.Sid.{Sid}
+use Rattle.jo_value.specs.declared.words.cell.Kind.TheVariants.{Dictionary}
+use Rattle.jo_value.specs.declared.words.node.Node.{Node}
+use Rattle.jo_value.specs.Words.{slot_bits}
+use Rattle.jo_model.specs.Objects.{property}
+use Rattle.jo_rule.specs.Areas.{Words, stored, nodes, first_children, siblings}
+use Rattle.jo_rule.specs.Shapes.{Shape, Shaped, names_of, offset_of}
+use Rattle.jo_rule.specs.Spots.{Spot, offset, element, Location, values, spot_of}
+use Rattle.jo_rule.specs.Roles.{place_by}
+use Rattle.jo_rule.specs.Dictionaries.{slot_in}
+use Rattle.jo_rule.specs.Contents.{is_keyed, is_segmented}
 use Rattle.jo_rule.specs.Views.{View, Kept}
 use Rattle.jo_value.specs.declared.limits.TheConstants.{MOST_INDEX}
 use Rattle.jo_model.specs.Objects.{Object}
@@ -48,13 +61,37 @@ pub record IsWritten (w : Words) (o : ObjId) (z : Object) : Type 0 where
   pub is_cell : IsCell found
   pub word : w (cell o) ≡ cell_bits found
   pub unlocked : found.locked ≡ false
+  pub kind : found.kind ≡ Dictionary
   pub capacity : room ≤ MOST_INDEX + 1
   pub header : stored w found.address ≡ dictionary_header room
   pub properties : HasProperties (λ k. stored w (found.address + k)) room z
   pub words : HasWords z
 
--- the calls of each pass are placed in the log that was seen, so that they make a legal history, and each object stands in the words
+-- an unlocked object stands in the words, whose keys lie at places: its structure has its names in order, and the header and the
+-- spine of its block give the place of each key, which has its value
+pub record IsWrittenAtPlaces (w : Words) (shape : Sid → Shape) (o : ObjId) (z : Object) : Type 0 where
+  pub found : Cell
+  pub is_cell : IsCell found
+  pub word : w (cell o) ≡ cell_bits found
+  pub unlocked : found.locked ≡ false
+  pub kind : is_keyed found.kind ≡ true
+  pub names : names_of (shape found.sid) ≡ map (λ p. p.0) z.names
+  pub inside : (name : NameId) (j : ℕ) → offset_of (shape found.sid) name ≡ Some j → place_by (is_segmented found.kind) (stored w) o found.address (offset j) ≢ None
+  pub values : (key : Key) (y : Spot) (p : Location) → spot_of (shape found.sid) key ≡ Some y → place_by (is_segmented found.kind) (stored w) o found.address y ≡ Some p → values w p ≡ slot_bits (slot_in (property z key))
+  pub beyond : (i : ℕ) → place_by (is_segmented found.kind) (stored w) o found.address (element i) ≡ None → property z (Index i) ≡ None
+  pub words : HasWords z
+
+-- an object stands in the words, as a dictionary or at places
+abbrev pub IsLeft : Words → (Sid → Shape) → ObjId → Object → Type 0
+IsLeft w shape o z = IsWritten w o z ⊎ IsWrittenAtPlaces w shape o z
+
+-- The calls of each pass are placed in the log that was seen, so that they make a legal history, and each object stands in the
+-- words, as a dictionary where none may be born flat. Shapes are what the nodes say.
 pub record HasEnded (passes : ℕ) (w : Words) (v : View) : Type 0 where
   pub placed : ArePlaced passes v.past.seen (all_calls passes v)
-  pub objects : (o : ObjId) → IsBorn (after passes v.past.seen) o → IsWritten w o (object_of (after passes v.past.seen) o)
+  pub node : Sid → Option Node
+  pub shape : Sid → Shape
+  pub shaped : Shaped passes (nodes w) (first_children w) (siblings w) node shape
+  pub objects : (o : ObjId) → IsBorn (after passes v.past.seen) o → IsLeft w shape o (object_of (after passes v.past.seen) o)
+  pub dictionaries : v.flat ≡ false → (o : ObjId) → IsBorn (after passes v.past.seen) o → IsWritten w o (object_of (after passes v.past.seen) o)
   pub unborn : (o : ObjId) → (IsBorn (after passes v.past.seen) o → ⊥) → w (cell o) ≡ 0

@@ -1,12 +1,11 @@
 -- What belongs to a pass alone: storage that no cell has named, objects and structures that are not born.
+pub use Rattle.jo_rule.specs.Roots.{root_node}
 use Rattle.std.specs.Prelude.{◌≡◌, ℕ, ◌+◌, ◌*◌, ◌<◌, ◌≤◌, List, length, Option, None}
 use Rattle.jo_value.specs.declared.capacities.TheConstants.{MOST_STRUCTURES, OUT, VALID}
 use Rattle.jo_value.specs.declared.limits.TheConstants.{MOST_STORAGE}
 use Rattle.jo_value.specs.declared.value.ObjId.{ObjId}
 use Rattle.jo_value.specs.declared.value.Sid.{Sid}
 use Rattle.jo_value.specs.declared.words.cell.Cell.{Cell}
-use Rattle.jo_value.specs.declared.words.node.Change.TheVariants.{Add}
-use Rattle.jo_value.specs.declared.words.node.Node.{Node}
 use Rattle.jo_value.specs.Words.{node_bits}
 use Rattle.jo_model.specs.Heaps.{Heap, objects_of}
 use Rattle.jo_rule.specs.Views.{View, Storage, word_in}
@@ -17,12 +16,9 @@ use Rattle.jo_rule.specs.Contents.{Role, unnamed, root_of}
 abbrev pub address_of : ℕ → ℕ → ℕ
 address_of pass k = MOST_STORAGE * pass + k
 
+-- structure k of a pass
 abbrev pub structure_of : ℕ → ℕ → Sid
 structure_of pass k = record { 0 = MOST_STRUCTURES * pass + k }
-
--- the node of each root has no name, and stands at the top
-abbrev pub root_node : Node
-root_node = record { parent = record { 0 = 0 }; name = record { 0 = 0 }; offset = 0; top = 0; depth = 0; change = Add }
 
 -- the words of the own storage that no cell has named are as the view knows them, and 0 where it has used none
 pub record OwnsStorage (s : ℕ → ℕ) (role : ℕ → Role) (pass : ℕ) (own : Storage) : Type 0 where
@@ -32,6 +28,7 @@ pub record OwnsStorage (s : ℕ → ℕ) (role : ℕ → Role) (pass : ℕ) (own
   pub known : (k : ℕ) → own.named ≤ k → k < MOST_STORAGE → s (address_of pass k) ≡ word_in own.fresh k
   pub zeros : (k : ℕ) → own.used ≤ k → word_in own.fresh k ≡ 0
 
+-- the storage of a view is its own
 abbrev pub StorageIsOwn : (ℕ → ℕ) → (ℕ → Role) → ℕ → View → Type 0
 StorageIsOwn s role seat v = OwnsStorage s role v.number v.storage
 
@@ -45,13 +42,16 @@ pub record OwnsStructures (nodes : Sid → ℕ) (pass made : ℕ) : Type 0 where
   pub few : made ≤ MOST_STRUCTURES
   pub unborn : (k : ℕ) → made ≤ k → k < MOST_STRUCTURES → nodes (structure_of pass k) ≡ 0
 
+-- the structures of a view are its own
 abbrev pub StructuresAreOwn : (Sid → ℕ) → ℕ → View → Type 0
 StructuresAreOwn nodes seat v = OwnsStructures nodes v.number v.births.nodes
 
+-- each live view has its storage and its objects alone
 pub record Owned (s : ℕ → ℕ) (role : ℕ → Role) (heap : Heap) (views : List View) : Type 0 where
   pub storage : Live views (StorageIsOwn s role)
   pub objects : Live views (ObjectsAreOwn heap)
 
+-- each root is there, and each live view has its structures alone
 pub record Structures (passes : ℕ) (nodes : Sid → ℕ) (views : List View) : Type 0 where
   pub roots : (pass : ℕ) → pass < passes → nodes (root_of pass) ≡ node_bits root_node
   pub own : Live views (StructuresAreOwn nodes)

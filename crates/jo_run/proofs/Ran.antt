@@ -5,6 +5,7 @@ use Rattle.std.proofs.lemmas.Option.{slice_get_within}
 use Rattle.jo_value.specs.Texts.{Table}
 use Rattle.jo_tree.specs.Trees.{Items}
 use Rattle.jo_model.specs.Placed.{PlacedCall}
+use Rattle.jo_value.specs.declared.capacities.TheConstants.{UNSTAMPED}
 use Rattle.jo_rule.specs.Ending.{HasJoinedAll}
 use Rattle.jo_rule.specs.Steps.{new_view}
 use Rattle.jo_rule.specs.Tidy.{IsTidy}
@@ -29,7 +30,7 @@ tidy_at_start : (passes t : ℕ) → IsTidy passes (fresh_view t)
 tidy_at_start passes t = record {
   no_raise = refl;
   no_firing = refl;
-  stamped = λ k d lt. absurd (omega arith);
+  stamped = λ o offset e. (let no : 0 ≡ UNSTAMPED = e in omega arith);
   storage = omega arith;
   structures = omega arith;
 }

@@ -31,11 +31,11 @@ same_block own number k room k' room' e h h' =
     (ek, same_room room room' (sym h ∙ (ap (word_in own.fresh) ek ∙ h')))
 
 -- what a pass has used and made is known by the rule after its step
-pub goes_on : {P : ℕ} {w : Words} (views : List View) (id : ℕ) (v u : View) → Rule P w (set views id u) → get_elem? views id ≡ some v → u.live ≡ true
+pub goes_on : {P : ℕ} {w : Words} (views : List View) (id : ℕ) (v u : View) → Rule P w (set views id u) → get_elem? views id ≡ some v → u.live ≡ true → v.flat ≡ u.flat
     → (used objects : ℕ) (counts : Counts) → used ≡ u.storage.used → v.births.nodes ≡ u.births.nodes → objects ≡ u.births.objects → counts ≡ u.counts → u.births.objects ≤ MOST_OBJECTS → GoesOn v u used objects counts
-goes_on views id v u r at l used objects counts same_used same_nodes same_objects same_counts few =
+goes_on views id v u r at l flat used objects counts same_used same_nodes same_objects same_counts few =
     let own = knows_storage id u r (set_there views id v u at) l in
-    record { same_used = same_used; same_nodes = same_nodes; same_objects = same_objects; same_counts = same_counts; few = few; named = own.0; most = own.1; zeros = own.2 }
+    record { same_flat = flat; same_used = same_used; same_nodes = same_nodes; same_objects = same_objects; same_counts = same_counts; few = few; named = own.0; most = own.1; zeros = own.2 }
 
 -- a word of a held block is none of the own storage that no cell has named
 pub not_fresh : {P : ℕ} {w : Words} {views : List View} (id : ℕ) (v : View) (r : Rule P w views) → get_elem? views id ≡ some v → v.live ≡ true
@@ -55,6 +55,7 @@ pub goes_pass : (v u : View) (number used nodes objects used' objects' used'' ob
     → used'' ≡ used' → objects'' ≡ objects' → counts'' ≡ counts' → IsPass u number used'' nodes objects'' counts'' stamps
 goes_pass v u number used nodes objects used' objects' used'' objects'' counts counts' counts'' stamps is live same_number goes eu eo ec = record {
   live = live ∙ is.live;
+  dictionaries = sym goes.same_flat ∙ is.dictionaries;
   same_number = is.same_number ∙ sym same_number;
   same_used = eu ∙ goes.same_used;
   same_nodes = is.same_nodes ∙ goes.same_nodes;

@@ -24,7 +24,7 @@ use Rattle.jo_rule.specs.Tidy.{own_changes}
 use Rattle.jo_rule.specs.Views.{View}
 use Rattle.jo_model.proofs.ValidEdits.{within_most}
 use Rattle.jo_rule.proofs.Heaps.{born-longer, within_passes, passes-after, formed-after}
-use Rattle.jo_rule.proofs.Contents.{standing_of, so_far}
+use Rattle.jo_rule.proofs.Contents.{standing}
 use Rattle.jo_rule.proofs.Histories.{begins_itself}
 use Rattle.jo_rule.proofs.Names.{word_back, put_same}
 use Rattle.jo_rule.proofs.Stores.{loads, reads_own, reads_held, refuses_new, refuses_spent}
@@ -107,24 +107,25 @@ there_is None e = (let no : false ≡ true = e in absurd cc)
 there_is (Some c) e = (c, refl)
 
 -- what is found where the cell of an object is that is born in what was seen
-pub finds : {P : ℕ} {w : Words} {views : List View} (id : ℕ) (v : View) → Rule P w views → get_elem? views id ≡ some v → v.live ≡ true → (o : ObjId) → IsBorn (after P v.past.seen) o → IsCellWordOf o (w (cell o))
-finds {P} id v r at l o born =
+pub finds : {P : ℕ} {w : Words} {views : List View} (id : ℕ) (v : View) → Rule P w views → get_elem? views id ≡ some v → v.live ≡ true → v.flat ≡ false → (o : ObjId) → IsBorn (after P v.past.seen) o → IsCellWordOf o (w (cell o))
+finds {P} id v r at l none_ o born =
     let seen = r.histories.seen id v at l in
     let now : IsBorn (after P r.log) o = subst (λ (x : Log Mark). IsBorn (after P x) o) (sym seen.1) (born-longer P v.past.seen seen.0 o born) in
     let c = there_is (r.cell o) (r.contents.born o ∙ lt-ltb o.serial (length (objects_of (after P r.log) o.pass)) now) in
-    let s = standing_of (r.cell o) c.0 c.1 (r.contents.stands o) in
-    record { cell = c.0; is = record { is_cell = s.cell; kind = so_far s; structure = s.structure; owner = s.owner }; is_word = r.coded o ∙ ap word_of_cell c.1 }
+    let s = standing r.contents o c.0 c.1 in
+    let d = r.allowed.dictionaries (sym (r.allowed.agreed id v at l) ∙ none_) o c.0 c.1 in
+    record { cell = c.0; is = record { is_cell = s.cell; kind = d.kind; structure = d.structure; owner = s.owner }; is_word = r.coded o ∙ ap word_of_cell c.1 }
 
 -- a load of the cell of an object that is born
-pub keeps_look : (P id : ℕ) (o : ObjId) (event : Event) (v : View) → v.live ≡ true → IsBorn (after P v.past.seen) o → MayPlaceByLoad P v event → Keeps P (cell o) (λ n. n) id v (looked P o event v)
-keeps_look P id o event v l born may w views r at =
+pub keeps_look : (P id : ℕ) (o : ObjId) (event : Event) (v : View) → v.live ≡ true → v.flat ≡ false → IsBorn (after P v.past.seen) o → MayPlaceByLoad P v event → Keeps P (cell o) (λ n. n) id v (looked P o event v)
+keeps_look P id o event v l none_ born may w views r at =
     let p = places id v r at l event may in
     let u = placing P v event r.log (one_load v.counts) in (
       u,
       loaded P w (cell o) (set views id u) p.rule,
       refl,
       refl,
-      (record { log = r.log; more = r.histories.seen id v at l; view = refl; objects = sym (r.owned.objects id v at l); changes = p.changes }, finds id v r at l o born),
+      (record { log = r.log; more = r.histories.seen id v at l; view = refl; objects = sym (r.owned.objects id v at l); changes = p.changes }, finds id v r at l none_ o born),
     )
 
 -- a load of a word that no other pass may change

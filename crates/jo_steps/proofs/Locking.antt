@@ -26,7 +26,7 @@ use Rattle.jo_rule.specs.Rule.{Rule}
 use Rattle.jo_rule.specs.Steps.{MayTry, MayLetGo, locked_cell, taken_lock, locking, losing, unlocked_cell, naming, releasing}
 use Rattle.jo_rule.proofs.Names.{put_same}
 use Rattle.jo_rule.proofs.Lists.{set_there}
-use Rattle.jo_rule.proofs.Contents.{standing_of, dictionary_of}
+use Rattle.jo_rule.proofs.Contents.{standing_dictionary}
 use Rattle.jo_rule.proofs.Stores.{held_word, knows_storage}
 use Rattle.jo_rule.proofs.Takes.{takes, loses, holds_content, releases, releases_moved}
 use Rattle.jo_rule.proofs.Tidy.{locking_changes, releasing_changes}
@@ -87,7 +87,7 @@ module _ {P : ℕ} {w : Words} {views : List View} (id : ℕ) (v : View) (r : Ru
         t.4,
         refl,
         refl,
-        record { taken = λ f. told; lost = λ n. absurd (n e); cell = is; goes = goes_on views id v u t.4 at l v.storage.used v.births.objects counts refl refl refl refl few },
+        record { taken = λ f. told; lost = λ n. absurd (n e); cell = is; goes = goes_on views id v u t.4 at l refl v.storage.used v.births.objects counts refl refl refl refl few },
       )
 
   loses_it : (o : ObjId) (c : Cell) → v.births.objects ≤ MOST_OBJECTS → MayTry v c → IsCellWordOf o (w (cell o)) → w (cell o) ≢ cell_bits c
@@ -100,14 +100,14 @@ module _ {P : ℕ} {w : Words} {views : List View} (id : ℕ) (v : View) (r : Ru
         subst (λ (x : Words). Rule P x (set views id u)) (sym (put_same w (cell o))) r',
         refl,
         refl,
-        record { taken = λ e. absurd (n e); lost = λ f. refl; cell = is; goes = goes_on views id v u r' at l v.storage.used v.births.objects counts refl refl refl refl few },
+        record { taken = λ e. absurd (n e); lost = λ f. refl; cell = is; goes = goes_on views id v u r' at l refl v.storage.used v.births.objects counts refl refl refl refl few },
       )
 
 -- the lock of an object is tried where a cell is expected
-pub tries : (P id : ℕ) (v : View) (o : ObjId) (c : Cell) → v.live ≡ true → v.births.objects ≤ MOST_OBJECTS → IsBorn (after P v.past.seen) o → MayTry v c
+pub tries : (P id : ℕ) (v : View) (o : ObjId) (c : Cell) → v.live ≡ true → v.flat ≡ false → v.births.objects ≤ MOST_OBJECTS → IsBorn (after P v.past.seen) o → MayTry v c
     → Keeps P (cell o) (λ n. either (eqb n (cell_bits c)) (cell_bits (locked_cell c)) n) id v (HasTried P o c v)
-tries P id v o c l few born may w views r at =
-    let is = finds id v r at l o born in
+tries P id v o c l none_ few born may w views r at =
+    let is = finds id v r at l none_ o born in
     exchanged (w (cell o)) (cell_bits c) (cell_bits (locked_cell c)) (λ (y : ℕ). (u : View) × Rule P (put w (cell o) y) (set views id u) × (u.number ≡ v.number) × (u.live ≡ v.live) × HasTried P o c v (w (cell o)) u)
     (takes_it id v r at l o c few born may is) (loses_it id v r at l o c few may is)
 
@@ -135,7 +135,7 @@ module _ {P : ℕ} {w : Words} {views : List View} (id : ℕ) (v : View) (r : Ru
   released : (own : Storage) (w' : Words) → Rule P w' (set views id (releasing P v event r.log own (one_store v.counts))) → Released P event own v (releasing P v event r.log own (one_store v.counts))
   released own w' r' =
       let t = r.locks.held id v at l (lock_of v) goes.held in
-      let d = dictionary_of (lock_of v).cell.kind goes.kind (standing_of (r.cell (lock_of v).object) (lock_of v).cell t.cell (r.contents.stands (lock_of v).object)).kind in
+      let d = standing_dictionary r.contents (lock_of v).object (lock_of v).cell t.cell goes.kind in
       record { log = r.log; more = r.histories.seen id v at l; content = holds_content id v r at l (lock_of v) goes.held (sym t.settled ∙ d.settled); view = refl; changes = releasing_changes id v r at l event own (one_store v.counts) }
 
   goes_there : (own : Storage) (c : Cell) → c ≡ next → own.used ≡ v.storage.used → Rule P (put w (cell (lock_of v).object) (cell_bits c)) (set views id (releasing P v event r.log own (one_store v.counts)))
@@ -147,7 +147,7 @@ module _ {P : ℕ} {w : Words} {views : List View} (id : ℕ) (v : View) (r : Ru
         subst (λ (z : ObjId × Cell). Rule P (put w (cell z.0) (cell_bits z.1)) (set views id u)) (λ i. (holds.object i, e i)) r',
         refl,
         refl,
-        record { let_go = told; goes = goes_on views id v u r' at l v.storage.used v.births.objects (one_store v.counts) (sym used) refl refl refl few },
+        record { let_go = told; goes = goes_on views id v u r' at l refl v.storage.used v.births.objects (one_store v.counts) (sym used) refl refl refl few },
       )
 
   goes_here : LeavesHere v held next event → (u : View) × Rule P (put w (cell held.object) (cell_bits next)) (set views id u) × (u.number ≡ v.number) × (u.live ≡ v.live) × HasLetGo P held next event v u

@@ -72,7 +72,7 @@ made_of h q v few most table e =
 -- and so are one that has made another, and one that has taken in another
 pub cut_of : (h : HeapView) (p q : PassView) → IsPassOf h p → q.table ≡ p.table → q.view ≡ split_left p.view → IsPassOf h q
 cut_of h p q is table e =
-    stays_of h p q is table (subst (Stays p.view) (sym e) record { live = refl; number = refl; births = refl; storage = refl }) (subst (λ (u : View). ArePlacedIn h.passes u.past.seen u.number u.past.calls) (sym e) is.placed)
+    stays_of h p q is table (subst (Stays p.view) (sym e) record { live = refl; number = refl; flat = refl; births = refl; storage = refl }) (subst (λ (u : View). ArePlacedIn h.passes u.past.seen u.number u.past.calls) (sym e) is.placed)
 
 pub joined_of : (h : HeapView) (p q : PassView) (v : View) → IsPassOf h p → q.table ≡ p.table → q.view ≡ joined p.view v → ArePlacedIn h.passes q.view.past.seen q.view.number q.view.past.calls → IsPassOf h q
-joined_of h p q v is table e placed = stays_of h p q is table (subst (Stays p.view) (sym e) record { live = refl; number = refl; births = refl; storage = refl }) placed
+joined_of h p q v is table e placed = stays_of h p q is table (subst (Stays p.view) (sym e) record { live = refl; number = refl; flat = refl; births = refl; storage = refl }) placed

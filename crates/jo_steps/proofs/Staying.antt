@@ -16,6 +16,7 @@ use Rattle.jo_steps.specs.inner.Passes.{IsPass}
 pub record Stays (v u : View) : Type 0 where
   pub live : u.live ≡ v.live
   pub number : u.number ≡ v.number
+  pub flat : u.flat ≡ v.flat
   pub births : u.births ≡ v.births
   pub storage : u.storage ≡ v.storage
 
@@ -36,6 +37,7 @@ stays_of h p q is table s placed = record {
 pub stays_pass : (v u : View) (number used nodes objects : ℕ) (counts counts' : Counts) (stamps : List ℕ) → IsPass v number used nodes objects counts stamps → Stays v u → counts' ≡ u.counts → IsPass u number used nodes objects counts' stamps
 stays_pass v u number used nodes objects counts counts' stamps is s e = record {
   live = s.live ∙ is.live;
+  dictionaries = s.flat ∙ is.dictionaries;
   same_number = is.same_number ∙ sym s.number;
   same_used = is.same_used ∙ sym (ap (λ (own : Storage). own.used) s.storage);
   same_nodes = is.same_nodes ∙ sym (ap (λ (b : Births). b.nodes) s.births);
@@ -48,11 +50,11 @@ stays_pass v u number used nodes objects counts counts' stamps is s e = record {
 
 -- nothing but the counts changes
 pub counted_stays : (v u : View) (counts : Counts) → u ≡ record v { counts = counts } → Stays v u
-counted_stays v u counts e = subst (Stays v) (sym e) record { live = refl; number = refl; births = refl; storage = refl }
+counted_stays v u counts e = subst (Stays v) (sym e) record { live = refl; number = refl; flat = refl; births = refl; storage = refl }
 
 -- more of the log is seen, and an event is placed
 pub placing_stays : (P : ℕ) (v u : View) (event : Event) (log : Log Mark) (counts : Counts) → u ≡ placing P v event log counts → Stays v u
-placing_stays P v u event log counts e = subst (Stays v) (sym e) record { live = refl; number = refl; births = refl; storage = refl }
+placing_stays P v u event log counts e = subst (Stays v) (sym e) record { live = refl; number = refl; flat = refl; births = refl; storage = refl }
 
 -- the counts after a load
 pub load_counted : (counts known : Counts) (n : ℕ) → n ≡ one_more counts.loads → counts ≡ known → record counts { loads = n } ≡ one_load known

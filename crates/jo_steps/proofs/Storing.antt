@@ -90,7 +90,7 @@ module _ {P : ℕ} {w : Words} {views : List View} (id : ℕ) (v : View) (r : Ru
         refl,
         record {
           told = told;
-          goes = goes_on views id v u r' at l (used_after P v.number v.storage.used i) (objects_after P v.births.objects i) counts
+          goes = goes_on views id v u r' at l refl (used_after P v.number v.storage.used i) (objects_after P v.births.objects i) counts
               (ap (used_after P v.number v.storage.used) f.number ∙ used_fresh P v.number v.storage.used k f.within) refl
               (ap (objects_after P v.births.objects) f.number ∙ objects_same P v.births.objects (address_of v.number k)) refl few;
         },
@@ -115,7 +115,7 @@ module _ {P : ℕ} {w : Words} {views : List View} (id : ℕ) (v : View) (r : Ru
         refl,
         record {
           told = told;
-          goes = goes_on views id v u r' at l (used_after P v.number v.storage.used i) (objects_after P v.births.objects i) counts
+          goes = goes_on views id v u r' at l refl (used_after P v.number v.storage.used i) (objects_after P v.births.objects i) counts
               (used_same P v.number v.storage.used i (λ j le lt e. fresh_or_held j k (record { nameless = omega arith; within = lt; number = e }) h)) refl
               (ap (objects_after P v.births.objects) h.number ∙ objects_same P v.births.objects (g.cell.address + k)) refl few;
         },
@@ -146,7 +146,7 @@ module _ {P : ℕ} {w : Words} {views : List View} (id : ℕ) (v : View) (r : Ru
         refl,
         record {
           told = told;
-          goes = goes_on views id v u r' at l (used_after P v.number v.storage.used i) (objects_after P v.births.objects i) counts
+          goes = goes_on views id v u r' at l refl (used_after P v.number v.storage.used i) (objects_after P v.births.objects i) counts
               (used_same P v.number v.storage.used i (λ j le lt e. cell_or_storage k room (address_of v.number j) b e)) refl (rw before refl) refl (omega arith);
         },
       )

@@ -1,5 +1,5 @@
 // How a heap begins and ends.
-ghost use Rattle.std.specs.Prelude.{◌≡◌, ◌<◌, ◌≤◌, IfOk, length};
+ghost use Rattle.std.specs.Prelude.{◌≡◌, ◌<◌, ◌≤◌, IfOk, false, length};
 ghost use Rattle.jo_value.specs.declared.capacities.TheConstants.{MOST_PASSES};
 ghost use Rattle.jo_rule.specs.Names.{words_in_all};
 ghost use Rattle.jo_rule.specs.Areas.{words_of};
@@ -48,6 +48,7 @@ pub fn close_heap(heap: Heap, pass: Pass) -> ClosedWords
     requires pass { IsPassOf heap pass }
     requires joined { HasJoinedAll pass.view }
     ensures words { (result.passes ≡ heap.passes) × (result.view ≡ pass.view) }
+    ensures dictionaries { result.view.flat ≡ false }
     ensures all { length result.words ≡ words_in_all result.passes }
     ensures ended { HasEnded result.passes (words_of result.passes result.words) result.view }
 {

@@ -6,6 +6,7 @@ use Rattle.jo_rule.specs.Views.{View, word_in}
 
 -- what it has used, its objects and its counts are these after a step, and it stays a pass of its heap
 pub record GoesOn (v u : View) (used objects : ℕ) (counts : Counts) : Type 0 where
+  pub same_flat : v.flat ≡ u.flat
   pub same_used : used ≡ u.storage.used
   pub same_nodes : v.births.nodes ≡ u.births.nodes
   pub same_objects : objects ≡ u.births.objects

@@ -23,7 +23,7 @@ load_as-word-requires c =
       table = is.table;
       passes = refl;
       place = (c.at_cell-at.ensures, born_there P p.me.0.view.past.seen c.args.o (omega arith) born);
-      keeps = keeps_look P p.id c.args.o c.args.event p.me.0.view c.pass.invariant.1.live born may;
+      keeps = keeps_look P p.id c.args.o c.args.event p.me.0.view c.pass.invariant.1.live c.pass.invariant.1.dictionaries born may;
     }
 
 pub found_cell-requires : goal.found_cell-requires

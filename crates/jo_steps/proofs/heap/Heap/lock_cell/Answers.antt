@@ -34,7 +34,7 @@ exchange_as-found-requires-clause-keeps c =
     let v = seat.me.0.view in
     let same : c.args.pass.now.view ≡ v = ap (λ (q : PassView). q.view) (sym c.pass.view_is) in
     subst (λ (z : ℕ × ℕ). Keeps P (cell c.args.o) (λ n. either (eqb n z.0) z.1 n) seat.id v (HasTried P c.args.o c.args.seen v)) (λ i. (sym c.cell_word-expected.ensures i, sym c.cell_word.ensures i))
-    (tries P seat.id v c.args.o c.args.seen c.pass.invariant.1.live (subst (λ (x : View). x.births.objects ≤ MOST_OBJECTS) same c.requires.pass.objects) (subst (λ (x : View). IsBorn (after P x.past.seen) c.args.o) same c.requires.born) (subst (λ (x : View). MayTry x c.args.seen) same c.requires.may))
+    (tries P seat.id v c.args.o c.args.seen c.pass.invariant.1.live c.pass.invariant.1.dictionaries (subst (λ (x : View). x.births.objects ≤ MOST_OBJECTS) same c.requires.pass.objects) (subst (λ (x : View). IsBorn (after P x.past.seen) c.args.o) same c.requires.born) (subst (λ (x : View). MayTry x c.args.seen) same c.requires.may))
 
 pub found_cell-requires : goal.found_cell-requires
 found_cell-requires c = let is = c.exchange_as-found.ensures.told.told.cell in (is.cell, is.is.is_cell, is.is_word)
