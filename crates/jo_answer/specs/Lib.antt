@@ -2,4 +2,3 @@ pub mod Lines
 pub mod Forms
 pub mod Answers
 pub mod Texts
-pub mod inner

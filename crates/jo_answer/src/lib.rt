@@ -2,7 +2,6 @@
 #![tactic(auto)]
 
 mod due;
-mod left;
 mod lines;
 mod order;
 mod summary;

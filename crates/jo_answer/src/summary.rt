@@ -1,12 +1,10 @@
 // The line that sums up a made set.
 ghost use Rattle.std.specs.Prelude.{◌≡◌, count_by};
-ghost use Rattle.jo_model.specs.WellFormed.{IsWellFormedHeap};
 ghost use Rattle.jo_heap.specs.Closing.{heap_left};
 ghost use Rattle.jo_print.specs.Printers.{Prints};
 ghost use Rattle.jo_run.specs.Sets.{outcomes_of};
 ghost use Rattle.jo_answer.specs.Forms.{is_done, summary_line};
 
-use crate::left::Left;
 use jo_io::Sink;
 use jo_model::Outcome;
 use jo_print::Printer;
@@ -16,11 +14,10 @@ use jo_totals::totals;
 /// Prints the line that sums up the made set with this number: how many scripts there were and how many of them are done, and
 /// what the heap has in all.
 pub(crate) fn print_summary<K: Sink>(printer: &mut Printer<'_, K>, number: u32, ended: &Ended)
-    requires { IsWellFormedHeap (heap_left ended.now.closed) }
     ensures { Prints K.held K.faults printer.old printer.new
         (summary_line number (outcomes_of ended.now.scripts.items) (heap_left ended.now.closed)) }
 {
-    let all = totals(&Left::of(&ended.closed));
+    let all = totals(&ended.closed);
     printer.put(b"made ");
     printer.put_integer(number);
     printer.put(b": scripts ");

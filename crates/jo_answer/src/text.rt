@@ -5,14 +5,11 @@ ghost use Rattle.std.specs.List.{enumerate_from, flat_map};
 ghost use Rattle.jo_value.specs.declared.limits.TheConstants.{MOST_SCRIPTS};
 ghost use Rattle.jo_io.specs.Causes.{HasCause};
 ghost use Rattle.jo_io.specs.Bytes.{AppendsPart};
-ghost use Rattle.jo_model.specs.WellFormed.{IsWellFormedHeap};
-ghost use Rattle.jo_heap.specs.Closing.{heap_left};
 ghost use Rattle.jo_print.specs.Printers.{Prints};
 ghost use Rattle.jo_answer.specs.Texts.{IsPrintable, ended_bytes, ended_of, part_bytes, text_of, whole_bytes};
 ghost use Rattle.jo_answer.specs.Forms.{counts_line};
 
 use crate::Form;
-use crate::left::Left;
 use crate::summary::print_summary;
 use jo_io::{Failed, Sink, write_all};
 use jo_parse::ScriptSet;
@@ -77,8 +74,7 @@ fn print_ended<K: Sink>(
     ended: &Ended,
     form: Form,
 ) -> Result<(), Failed>
-    requires few { length ended.now.scripts.items ≤ MOST_SCRIPTS }
-    requires formed { IsWellFormedHeap (heap_left ended.now.closed) }
+    requires { length ended.now.scripts.items ≤ MOST_SCRIPTS }
     ensures ok { OnOk result (Appends (K.held sink.old) (K.held sink.new) (ended_bytes form texts.now ended.now)) }
     ensures err { OnErr result (AppendsPart (K.held sink.old) (K.held sink.new) (ended_bytes form texts.now ended.now)) }
     ensures cause { HasCause (K.faults sink.old) (K.faults sink.new) result }
@@ -90,8 +86,7 @@ fn print_ended<K: Sink>(
 
 // Prints what is due for scripts that were run.
 fn print_form<K: Sink>(printer: &mut Printer<'_, K>, texts: &Texts, ended: &Ended, form: Form)
-    requires few { length ended.now.scripts.items ≤ MOST_SCRIPTS }
-    requires formed { IsWellFormedHeap (heap_left ended.now.closed) }
+    requires { length ended.now.scripts.items ≤ MOST_SCRIPTS }
     ensures { Prints K.held K.faults printer.old printer.new (ended_bytes form texts.now ended.now) }
 {
     match form {
@@ -103,12 +98,11 @@ fn print_form<K: Sink>(printer: &mut Printer<'_, K>, texts: &Texts, ended: &Ende
 
 // Prints the output of scripts, with their counts or without.
 fn print_whole<K: Sink>(printer: &mut Printer<'_, K>, texts: &Texts, ended: &Ended, counted: bool)
-    requires few { length ended.now.scripts.items ≤ MOST_SCRIPTS }
-    requires formed { IsWellFormedHeap (heap_left ended.now.closed) }
+    requires { length ended.now.scripts.items ≤ MOST_SCRIPTS }
     ensures { Prints K.held K.faults printer.old printer.new (whole_bytes counted texts.now ended.now) }
 {
     print_scripts(printer, &ended.scripts, counted);
-    print_heap(printer, texts, &Left::of(&ended.closed));
+    print_heap(printer, texts, &ended.closed);
 }
 
 // Prints the parts of scripts, which are numbered from 1.

@@ -1,15 +1,60 @@
 // Changes under the lock of an object.
 ghost use Rattle.std.specs.Prelude.{◌≡◌};
+ghost use Rattle.jo_value.specs.Words.{IsSlot};
+ghost use Rattle.jo_value.specs.declared.words.slot.Slot.TheVariants.{Holds};
+ghost use Rattle.jo_model.specs.Objects.{Object};
+ghost use Rattle.jo_model.specs.One.{delete_in, put_in};
+ghost use Rattle.jo_steps.specs.Holding.{HasBlockOf, HasLock};
+ghost use Rattle.jo_dict.specs.Blocks.{OnlyBlock, OnlyCounts};
 ghost use Rattle.jo_calls_tests.specs.Working.{MayCall, Stays};
 
-use jo_dict::{add, find, len, take_out};
+use jo_dict::{Place, add, find, len, locate, take_out};
 use jo_guard::{let_go, try_lock, wait_for_lock};
 use jo_model::Call;
 use jo_rule::Event;
-use jo_steps::{Heap, Pass};
+use jo_steps::{Heap, Held, Pass};
 use jo_value::{Key, NameId, ObjId, Slot, Value};
 use std::process::Abort;
 use std::sync::Wait;
+
+// What the held block has for a key.
+fn look(heap: &Heap, pass: &mut Pass, held: &Held, key: Key) -> Slot
+    requires held { HasLock heap.now pass.old held.now }
+    requires block { (z : Object) × HasBlockOf pass.old.view z }
+    ensures held { HasLock heap.now pass.new held.now }
+    ensures only { OnlyCounts pass.old.view pass.new.view }
+{
+    let place = locate(heap, pass, held, key);
+    find(heap, pass, held, place)
+}
+
+// Puts a property into the held block, which has to have room for it.
+fn place(rt: &impl Abort, heap: &Heap, pass: &mut Pass, held: &Held, key: Key, value: Value)
+    requires held { HasLock heap.now pass.old held.now }
+    requires block { (z : Object) × HasBlockOf pass.old.view z }
+    requires value { IsSlot (Holds value) }
+    ensures held { HasLock heap.now pass.new held.now }
+    ensures block { (z : Object) → HasBlockOf pass.old.view z → HasBlockOf pass.new.view (put_in z key value).0 }
+    ensures only { OnlyBlock pass.old.view pass.new.view }
+{
+    match locate(heap, pass, held, key) {
+        Place::At(spot) => add(heap, pass, held, spot, value),
+        Place::NoMoreNames => panic!(rt; "there is no room for a name"),
+        Place::Beyond(_) => panic!(rt; "there is no room for an index"),
+    }
+}
+
+// Takes a property out of it.
+fn remove(heap: &Heap, pass: &mut Pass, held: &Held, key: Key)
+    requires held { HasLock heap.now pass.old held.now }
+    requires block { (z : Object) × HasBlockOf pass.old.view z }
+    ensures held { HasLock heap.now pass.new held.now }
+    ensures block { (z : Object) → HasBlockOf pass.old.view z → HasBlockOf pass.new.view (delete_in z key).0 }
+    ensures only { OnlyBlock pass.old.view pass.new.view }
+{
+    let place = locate(heap, pass, held, key);
+    take_out(heap, pass, held, place);
+}
 
 /// Puts a truth value under a name that is not there, and finds it.
 pub(crate) fn put_held<R: Abort + Wait>(
@@ -26,10 +71,10 @@ pub(crate) fn put_held<R: Abort + Wait>(
 {
     let (key, value) = (Key::Name(name), Value::Bool(flag));
     let held = wait_for_lock(rt, heap, pass, o);
-    assert!(rt; find(heap, pass, &held, key) == Slot::Absent);
+    assert!(rt; look(heap, pass, &held, key) == Slot::Absent);
     assert!(rt; len(heap, pass, &held) < 64);
-    add(heap, pass, &held, key, value);
-    assert!(rt; find(heap, pass, &held, key) == Slot::Holds(value));
+    place(rt, heap, pass, &held, key, value);
+    assert!(rt; look(heap, pass, &held, key) == Slot::Holds(value));
     let put = Call::Put {
         object: o,
         key,
@@ -52,8 +97,8 @@ pub(crate) fn delete_held<R: Abort + Wait>(
 {
     let key = Key::Name(name);
     let held = wait_for_lock(rt, heap, pass, o);
-    take_out(heap, pass, &held, key);
-    assert!(rt; find(heap, pass, &held, key) == Slot::Absent);
+    remove(heap, pass, &held, key);
+    assert!(rt; look(heap, pass, &held, key) == Slot::Absent);
     let delete = Call::Delete { object: o, key };
     let_go(heap, pass, held, Event::Place(delete));
 }

@@ -12,7 +12,6 @@ use Rattle.jo_value.specs.Words.{slot_bits}
 use Rattle.jo_model.specs.Objects.{Object, has_property, is_full_for, with_value, with_property}
 use Rattle.jo_model.specs.One.{put_in}
 use Rattle.jo_rule.specs.Dictionaries.{HasProperties, slot_in}
-use Rattle.jo_dict.specs.Blocks.{HasRoomFor}
 use Rattle.jo_dict.specs.inner.Stored.{Stores}
 use Rattle.jo_dict.specs.inner.Places.{IsPlaceOf}
 use Rattle.jo_dict.proofs.Reading.{no_pair, pair_words, name_place_is, name_there, name_absent}
@@ -46,13 +45,10 @@ with_pairs f g room z names p few count pairs same = record {
   beyond = p.beyond;
 }
 
+-- ---- a name that is there, or not
+
 module _ {f : ℕ → ℕ} {room : ℕ} {z : Object} (p : HasProperties f room z) (name : NameId) {place : ℕ} (is : IsPlaceOf f (length z.names) name.0 place) where
-  few_names : length z.names ≤ 64
-  few_names = p.few
-
-  -- ---- a name that is there
-
-  there : place < length z.names → has_property z (Name name) ≡ true
+  pub there : place < length z.names → has_property z (Name name) ≡ true
   there lt = ap is_some (name_there p name is lt)
 
   value_pairs : (v : Value) (g : ℕ → ℕ) → place < length z.names → Stores f (3 + 2 * place) (slot_bits (Holds v)) g → HasPairs g (set z.names place (name, v))
@@ -74,30 +70,20 @@ module _ {f : ℕ → ℕ} {room : ℕ} {z : Object} (p : HasProperties f room z
   value_put : (v : Value) (g : ℕ → ℕ) → place < length z.names → Stores f (3 + 2 * place) (slot_bits (Holds v)) g → HasProperties g room (with_value z (Name name) v)
   value_put v g lt s =
       let size = length-set z.names place (name, v) in
-      let few = few_names in
+      let few = p.few in
       let made = with_pairs f g room z (set z.names place (name, v)) p (omega arith) (s.others 1 (λ h. omega arith) ∙ p.count ∙ sym size) (value_pairs v g lt s) (λ k le. s.others k (λ h. omega arith)) in
       subst (λ k. HasProperties g room (record z { names = set z.names k (name, v) })) (sym (name_place_is p name is)) made
 
-  -- ---- a new name
-
-  not_there : place ≡ length z.names → has_property z (Name name) ≡ false
+  pub not_there : place ≡ length z.names → has_property z (Name name) ≡ false
   not_there e = ap is_some (name_absent p name is e)
 
-  -- there is room for it, as there is for the name in any object with these words
-  pub name_room : (y : Object) → HasProperties f room y → HasRoomFor room y (Name name) → place ≡ length z.names → length z.names < 64
-  name_room y q has e =
-      let same : length z.names ≡ length y.names = sym p.count ∙ q.count in
-      let there : IsPlaceOf f (length y.names) name.0 place = subst (λ n. IsPlaceOf f n name.0 place) same is in
-      ⊎_elim
-      (λ (h : has_property y (Name name) ≡ true). (let no : false ≡ true = sym (ap is_some (name_absent q name there (e ∙ same))) ∙ h in absurd cc))
-      (λ (h : length y.names < 64). omega arith) has
+  -- what a Put makes of it
+  pub value_done : (v : Value) (g : ℕ → ℕ) → place < length z.names → Stores f (3 + 2 * place) (slot_bits (Holds v)) g → HasProperties g room (put_in z (Name name) v).0
+  value_done v g lt s = subst (HasProperties g room) (sym (put_there z (Name name) v (there lt))) (value_put v g lt s)
 
-  pub place_room : (y : Object) → HasProperties f room y → HasRoomFor room y (Name name) → place < 64
-  place_room y q has =
-      let to = is.to in
-      let few = few_names in
-      ⊎_elim (λ (lt : place < length z.names). omega arith) (λ (le : length z.names ≤ place). (let more = name_room y q has (omega arith) in omega arith)) (cases_lt place (length z.names))
+-- ---- a new name
 
+module _ {f : ℕ → ℕ} {room : ℕ} {z : Object} (p : HasProperties f room z) (name : NameId) {place : ℕ} where
   more_pairs : (v : Value) (g : ℕ → ℕ) → place ≡ length z.names → g (2 + 2 * place) ≡ name.0 → g (3 + 2 * place) ≡ slot_bits (Holds v) → ((k : ℕ) → 1 < k → k < 2 + 2 * place → g k ≡ f k)
       → HasPairs g (z.names ++ (name, v) ∷ [])
   more_pairs v g e first second same = record {
@@ -125,14 +111,10 @@ module _ {f : ℕ → ℕ} {room : ℕ} {z : Object} (p : HasProperties f room z
       with_pairs f g room z (z.names ++ (name, v) ∷ []) p (omega arith) (u.here ∙ sym size) (more_pairs v g e first second (λ k lt h. same k lt (λ q. omega arith) (λ q. omega arith)))
       (λ k le. same k (omega arith) (λ q. omega arith) (λ q. omega arith))
 
-  -- ---- what a Put makes of it
-
-  pub value_done : (v : Value) (g : ℕ → ℕ) → place < length z.names → Stores f (3 + 2 * place) (slot_bits (Holds v)) g → HasProperties g room (put_in z (Name name) v).0
-  value_done v g lt s = subst (HasProperties g room) (sym (put_there z (Name name) v (there lt))) (value_put v g lt s)
-
-  pub name_done : (v : Value) (a b g : ℕ → ℕ) → place ≡ length z.names → length z.names < 64 → Stores f (3 + 2 * place) (slot_bits (Holds v)) a → Stores a (2 + 2 * place) name.0 b → Stores b 1 (length z.names + 1) g
+  -- what a Put makes of it
+  pub name_done : (v : Value) (a b g : ℕ → ℕ) → has_property z (Name name) ≡ false → place ≡ length z.names → length z.names < 64 → Stores f (3 + 2 * place) (slot_bits (Holds v)) a → Stores a (2 + 2 * place) name.0 b → Stores b 1 (length z.names + 1) g
       → HasProperties g room (put_in z (Name name) v).0
-  name_done v a b g e lt s t u = subst (HasProperties g room) (sym (put_new z (Name name) v (not_there e) (lt-leb 64 (length z.names) lt))) (name_put v a b g e lt s t u)
+  name_done v a b g new e lt s t u = subst (HasProperties g room) (sym (put_new z (Name name) v new (lt-leb 64 (length z.names) lt))) (name_put v a b g e lt s t u)
 
 -- ---- an element
 

@@ -5,7 +5,6 @@ use Rattle.jo_rule.specs.Views.{View, Storage, word_in}
 use Rattle.jo_rule.specs.Dictionaries.{HasProperties}
 use Rattle.jo_rule.specs.Steps.{IsFilled}
 use Rattle.jo_dict.specs.Blocks.{OnlyCounts}
-use Rattle.jo_dict.specs.inner.Places.{IsPlaceOf}
 use Rattle.jo_dict.specs.inner.Stored.{KeepsArea, block_words}
 
 -- the header tells the room
@@ -14,11 +13,6 @@ same_elements own first m n y z f g = (let a = f.header in let b = g.header in o
 
 pub same_fresh : (v u : View) (first : ℕ) → OnlyCounts v u → block_words u first ≡ block_words v first
 same_fresh v u first e = ap (λ (x : View). block_words x first) e
-
--- a name stands where a pass found it that has loaded how many there are before
-pub placed_fresh : (v u : View) (first names name place : ℕ) (z : Object) → OnlyCounts v u → names ≡ length z.names → IsPlaceOf (block_words u first) names name place → IsPlaceOf (block_words v first) (length z.names) name place
-placed_fresh v u first names name place z e n is =
-    subst (λ (f : ℕ → ℕ). IsPlaceOf f (length z.names) name place) (same_fresh v u first e) (subst (λ (m : ℕ). IsPlaceOf (block_words u first) m name place) n is)
 
 pub area_after : (v u w : View) → OnlyCounts v u → KeepsArea u w → KeepsArea v w
 area_after v u w e a = record {

@@ -3,6 +3,8 @@ pub mod Reading
 pub mod Elements
 pub mod Wording
 pub mod Adding
+pub mod Locating
 pub mod Taking
+pub mod Changed
 pub mod Fresh
 pub mod Copied

@@ -16,7 +16,6 @@ use Rattle.jo_rule.specs.Steps.{filling, writing}
 use Rattle.jo_steps.specs.Views.{HeldView}
 use Rattle.jo_steps.specs.Holding.{lock_of, lock_or, HoldsLock, HasBlockOf, IsHeldAt}
 use Rattle.jo_dict.specs.Blocks.{OnlyCounts, OnlyStorage, OnlyBlock}
-use Rattle.jo_dict.specs.inner.Places.{IsPlaceOf}
 use Rattle.jo_dict.specs.inner.Stored.{Fills, Stores, held_words}
 
 -- a word that was stored, where its number, the word and the words before are told otherwise
@@ -113,10 +112,6 @@ same_block v u z e b =
 
 pub counts_room : (v u : View) → OnlyCounts v u → (lock_of u).room ≡ (lock_of v).room
 counts_room v u e = ap (λ (x : View). (lock_of x).room) e
-
--- a name stands where a pass found it that has counted the names before
-pub placed : (v u : View) (names name place : ℕ) (z : Object) → OnlyCounts v u → names ≡ length z.names → IsPlaceOf (held_words u) names name place → IsPlaceOf (held_words v) (length z.names) name place
-placed v u names name place z e n is = subst (λ (f : ℕ → ℕ). IsPlaceOf f (length z.names) name place) (same_words v u e) (subst (λ (m : ℕ). IsPlaceOf (held_words u) m name place) n is)
 
 -- ---- steps that store a word of the block
 

@@ -1,16 +1,18 @@
 -- What the calls on blocks of dictionaries say.
-use Rattle.std.specs.Prelude.{◌≡◌, ◌⊎◌, ℕ, ◌+◌, ◌<◌, ◌≤◌, true, length, Some}
+use Rattle.std.specs.Prelude.{◌≡◌, ◌⊎◌, ℕ, ◌+◌, ◌<◌, ◌≤◌, true, false, length, Some}
 use Rattle.jo_value.specs.declared.capacities.TheConstants.{DICTIONARY_NAMES}
 use Rattle.jo_value.specs.declared.limits.TheConstants.{MOST_STORAGE}
 use Rattle.jo_value.specs.declared.value.Key.{Key}
 use Rattle.jo_value.specs.declared.value.Key.TheVariants.{Name, Index}
 use Rattle.jo_model.specs.declared.call.Spent.{Spent}
-use Rattle.jo_model.specs.Objects.{Object, has_property}
+use Rattle.jo_model.specs.Objects.{Object, has_property, is_full_for}
 use Rattle.jo_rule.specs.Views.{View, word_in}
 use Rattle.jo_rule.specs.Dictionaries.{block_size}
 use Rattle.jo_rule.specs.Owned.{address_of}
 use Rattle.jo_rule.specs.Steps.{IsFilled}
-use Rattle.jo_steps.specs.Holding.{lock_of, HasBlockOf}
+use Rattle.jo_steps.specs.Holding.{lock_of}
+use Rattle.jo_dict.specs.declared.place.Place.{Place}
+use Rattle.jo_dict.specs.declared.place.Place.TheVariants.{At, Beyond, NoMoreNames}
 
 -- only counts differ
 abbrev pub OnlyCounts : View → View → Type 0
@@ -46,17 +48,23 @@ abbrev pub HasRoomFor : (room : ℕ) → Object → Key → Type 0
 HasRoomFor room z (Name name) = (has_property z (Name name) ≡ true) ⊎ (length z.names < DICTIONARY_NAMES)
 HasRoomFor room z (Index index) = index < room
 
--- the held block has the properties of some object, and room for this key
-pub record HasRoom (v : View) (key : Key) : Type 0 where
-  pub object : Object
-  pub block : HasBlockOf v object
-  pub room : HasRoomFor (lock_of v).room object key
+-- what is found of the room for a key, in a block with so much room which has the properties of an object
+abbrev pub IsRoomFor : (room : ℕ) → Object → Key → Place → Type 0
+IsRoomFor room z key (At spot) = HasRoomFor room z key
+IsRoomFor room z key NoMoreNames = (has_property z key ≡ false) × (is_full_for z key ≡ true)
+IsRoomFor room z key (Beyond index) = (key ≡ Index index) × (room ≤ index)
 
--- at this address of the own storage is a block with the properties of some object, which no cell names, with room for this key
+-- the name is not there, and there is room for it, or there is room for the index
+abbrev pub MayAppend : (room : ℕ) → Object → Key → Type 0
+MayAppend room z (Name name) = (has_property z (Name name) ≡ false) × (length z.names < DICTIONARY_NAMES)
+MayAppend room z (Index index) = index < room
+
+-- at this address of the own storage is a block with the properties of some object, which no cell names, with room for this
+-- key, which is not there where it is a name
 pub record HasBlockToFill (v : View) (address : ℕ) (key : Key) : Type 0 where
   pub at : ℕ
   pub elements : ℕ
   pub object : Object
   pub here : address ≡ address_of v.number at
   pub filled : IsFilled v.storage at elements object
-  pub room : HasRoomFor elements object key
+  pub room : MayAppend elements object key

@@ -6,10 +6,12 @@ mod filling;
 mod finding;
 mod listing;
 mod making;
+mod place;
 mod words;
 
 pub use changing::{add, take_out};
 pub use filling::fill;
-pub use finding::{find, len, room};
+pub use finding::{find, len, locate, room};
 pub use listing::names;
 pub use making::{block_of, empty_block};
+pub use place::{Place, Spot};

@@ -1,49 +1,14 @@
-// One word of a block, by its number there. Word 0 is the header, which never changes, and word 1 is how many names there
-// are. Then come a word for the name and one for the value of each pair, in order of creation, and behind the words of all
-// pairs that there may be, a slot for each index.
-ghost use Rattle.std.specs.Prelude.{◌≡◌, ◌+◌, ◌*◌, ◌<◌, ◌≤◌};
+// One word of a block, by its number there.
+ghost use Rattle.std.specs.Prelude.{◌≡◌, ◌<◌, ◌≤◌};
 ghost use Rattle.jo_value.specs.declared.limits.TheConstants.{MOST_STORAGE};
 ghost use Rattle.jo_rule.specs.Dictionaries.{block_size};
-ghost use Rattle.jo_rule.specs.Owned.{address_of};
 ghost use Rattle.jo_steps.specs.Views.{IsPassOf};
-ghost use Rattle.jo_steps.specs.Holding.{HoldsLock, IsHeldAt, lock_of};
+ghost use Rattle.jo_steps.specs.Holding.{HasLock, HoldsLock, IsHeldAt, lock_of};
 ghost use Rattle.jo_dict.specs.Blocks.{OnlyBlock, OnlyCounts};
 ghost use Rattle.jo_dict.specs.inner.Stored.{Fills, Stores, fresh_words, held_words};
 
+use jo_layout::address_of;
 use jo_steps::{Heap, Held, Pass};
-use jo_value::{DICTIONARY_NEED, MOST_STORAGE};
-
-/// The word that says how many names there are.
-pub(crate) const COUNT: u32 = 1;
-
-/// The word of the name of a pair.
-pub(crate) fn name_at(place: u8) -> u32
-    ensures { result ≡ 2 + 2 * place }
-{
-    2 + 2 * u32::from(place)
-}
-
-/// The word of the value of a pair.
-pub(crate) fn value_at(place: u8) -> u32
-    ensures { result ≡ 3 + 2 * place }
-{
-    3 + 2 * u32::from(place)
-}
-
-/// The word of an element.
-pub(crate) fn element_at(index: u16) -> u32
-    ensures { result ≡ 130 + index }
-{
-    DICTIONARY_NEED + u32::from(index)
-}
-
-/// The address of a word of a pass's own storage.
-pub(crate) fn address_of(pass: &Pass, k: u32) -> u32
-    requires { k < MOST_STORAGE }
-    ensures { result ≡ address_of pass.now.view.number k }
-{
-    MOST_STORAGE * u32::from(pass.number()) + k
-}
 
 // The number in the table of a word of the held block.
 fn at_held(heap: &Heap, pass: &Pass, held: &Held, k: u32) -> u32
@@ -57,11 +22,9 @@ fn at_held(heap: &Heap, pass: &Pass, held: &Held, k: u32) -> u32
 
 /// Loads a word of the held block.
 pub(crate) fn load_held(heap: &Heap, pass: &mut Pass, held: &Held, k: u32) -> u64
-    requires pass { IsPassOf heap.now pass.old }
-    requires held { HoldsLock heap.now.passes pass.old.view held.now }
+    requires held { HasLock heap.now pass.old held.now }
     requires within { k < block_size (lock_of pass.old.view).room }
-    ensures pass { IsPassOf heap.now pass.new }
-    ensures held { HoldsLock heap.now.passes pass.new.view held.now }
+    ensures held { HasLock heap.now pass.new held.now }
     ensures word { result ≡ held_words pass.old.view k }
     ensures only { OnlyCounts pass.old.view pass.new.view }
 {
@@ -71,11 +34,9 @@ pub(crate) fn load_held(heap: &Heap, pass: &mut Pass, held: &Held, k: u32) -> u6
 
 /// Stores a word of the held block, but for its header.
 pub(crate) fn store_held(heap: &Heap, pass: &mut Pass, held: &Held, k: u32, word: u64)
-    requires pass { IsPassOf heap.now pass.old }
-    requires held { HoldsLock heap.now.passes pass.old.view held.now }
+    requires held { HasLock heap.now pass.old held.now }
     requires within { (0 < k) × (k < block_size (lock_of pass.old.view).room) }
-    ensures pass { IsPassOf heap.now pass.new }
-    ensures held { HoldsLock heap.now.passes pass.new.view held.now }
+    ensures held { HasLock heap.now pass.new held.now }
     ensures words { Stores (held_words pass.old.view) k word (held_words pass.new.view) }
     ensures only { OnlyBlock pass.old.view pass.new.view }
 {
@@ -92,7 +53,7 @@ pub(crate) fn load_fresh(heap: &Heap, pass: &mut Pass, k: u32) -> u64
     ensures word { result ≡ fresh_words pass.old.view k }
     ensures only { OnlyCounts pass.old.view pass.new.view }
 {
-    let at = heap.at_storage(address_of(pass, k));
+    let at = heap.at_storage(address_of(pass.number(), k));
     heap.load_own(pass, at)
 }
 
@@ -104,6 +65,6 @@ pub(crate) fn store_fresh(heap: &Heap, pass: &mut Pass, k: u32, word: u64)
     ensures pass { IsPassOf heap.now pass.new }
     ensures fills { Fills pass.old.view k word pass.new.view }
 {
-    let at = heap.at_storage(address_of(pass, k));
+    let at = heap.at_storage(address_of(pass.number(), k));
     heap.store_own(pass, at, word);
 }

@@ -24,6 +24,8 @@ use Rattle.jo_rule.specs.Names.{cell}
 use Rattle.jo_rule.proofs.Heaps.{born-longer, passes-after}
 use Rattle.jo_steps.specs.Views.{ClosedView}
 use Rattle.jo_heap.specs.Closing.{ClosedHeap, heap_left}
+use Rattle.jo_heap.specs.declared.block.Block.{Block}
+use Rattle.jo_heap.specs.inner.Blocks.{IsBlockOf}
 use Rattle.jo_heap.specs.inner.Values.{IsWordOf}
 use Rattle.jo_heap.proofs.Both.{both_off}
 
@@ -96,10 +98,10 @@ module _ (l : ClosedView) (c : ClosedHeap) (same : left_by l ≡ c) (h : HasLeft
 -- ---- a name and its value
 
 named : (names : List (NameId × Value)) (j : ℕ) → All (λ p. IsNameWord p.0 × IsSlot (Holds p.1)) names → j < length names
-    → (name : NameId) × (v : Value) × (slice_get names j ≡ Some (name, v)) × IsNameWord name × IsSlot (Holds v)
+    → (name : NameId) × (v : Value) × (slice_get names j ≡ Some (name, v)) × IsSlot (Holds v)
 named [] j all lt = absurd (omega arith)
 named (p ∷ names) zero all lt =
-    let here = All-head (λ (p : NameId × Value). IsNameWord p.0 × IsSlot (Holds p.1)) p names all in (p.0, p.1, refl, here.0, here.1)
+    let here = All-head (λ (p : NameId × Value). IsNameWord p.0 × IsSlot (Holds p.1)) p names all in (p.0, p.1, refl, here.1)
 named (p ∷ names) (suc j) all lt = named names j (All-tail (λ (p : NameId × Value). IsNameWord p.0 × IsSlot (Holds p.1)) p names all) (omega arith)
 
 -- the pair of a name, and what its two words are
@@ -108,27 +110,25 @@ pub record HasPair (z : Object) (j first second : ℕ) : Type 0 where
   pub value : Value
   pub there : slice_get z.names j ≡ Some (name, value)
   pub first_is : first ≡ name.0
-  pub few : IsNameWord name
   pub second_is : IsWordOf (Some value) second
 
 pair_at : (f : ℕ → ℕ) (room : ℕ) (z : Object) (j : ℕ) → HasProperties f room z → HasWords z → j < f 1 → HasPair z j (f (2 + 2 * j)) (f (3 + 2 * j))
 pair_at f room z j p h lt =
     let n = named z.names j h.names (let count = p.count in omega (arith, count, lt)) in
     let words = p.names j n.0 n.1 n.2 in
-    record { name = n.0; value = n.1; there = n.2; first_is = words.0; few = n.3; second_is = record { is_slot = n.4; is_word = sym words.1 } }
+    record { name = n.0; value = n.1; there = n.2; first_is = words.0; second_is = record { is_slot = n.3; is_word = sym words.1 } }
 
--- ---- the value at an index
+-- by the words that were read of a block: the number of names, and the two words of pair j
+pub pair_found : (w : Words) (z : Object) (b : Block) → IsBlockOf w z b → (j i x y count first : ℕ) → i ≡ j → x ≡ 2 + 2 * j → y ≡ 3 + 2 * j → count ≡ stored w (b.address + 1) → first ≡ stored w (b.address + x) → i < count
+    → HasPair z j first (stored w (b.address + y))
+pair_found w z b is j i x y count first ij name value counted read lt =
+    let here : b.address + (2 + 2 * j) ≡ b.address + x = omega (arith, name) in
+    let next : b.address + (3 + 2 * j) ≡ b.address + y = omega (arith, value) in
+    let few : j < stored w (b.address + 1) = omega (arith, lt, ij, counted) in
+    let p = pair_at (λ k. stored w (b.address + k)) b.elements z j is.properties is.words few in
+    subst (λ (a : ℕ × ℕ). HasPair z j a.0 a.1) (λ i. ((ap (stored w) here ∙ sym read) i, stored w (next i))) p
 
-slot_at : (l : List (ℕ × Value)) (j : ℕ) → All (λ (p : ℕ × Value). IsSlot (Holds p.1)) l → IsSlot (slot_in (option_map (λ p. p.1) (slice_get l j)))
-slot_at [] j all = tt
-slot_at (p ∷ l) zero all = All-head (λ (p : ℕ × Value). IsSlot (Holds p.1)) p l all
-slot_at (p ∷ l) (suc j) all = slot_at l j (All-tail (λ (p : ℕ × Value). IsSlot (Holds p.1)) p l all)
-
-element_slot : (z : Object) (index : ℕ) → HasWords z → IsSlot (slot_in (property z (Index index)))
-element_slot z index h = slot_at z.elements (element_place z index) h.elements
-
-element_at : (f : ℕ → ℕ) (room : ℕ) (z : Object) (i : ℕ) → HasProperties f room z → HasWords z → i < room → IsWordOf (property z (Index i)) (f (DICTIONARY_NEED + i))
-element_at f room z i p h lt = record { is_slot = element_slot z i h; is_word = sym (p.elements i lt) }
+-- ---- the block that a cell names
 
 abbrev header_for : ℕ → Header
 header_for room = record { names = DICTIONARY_NAMES; elements = room }
@@ -136,49 +136,26 @@ header_for room = record { names = DICTIONARY_NAMES; elements = room }
 is_header : (room : ℕ) → room ≤ MOST_INDEX + 1 → IsHeader (header_for room)
 is_header room le = record { names = omega arith; elements = omega arith }
 
--- ---- an object, by the cell that was found for its word
-
 -- a function that finds what has a word
 abbrev Finds : {A : Type 0} → (A → Type 0) → (A → ℕ) → ℕ → Option A → Type 0
 Finds {A} Is bits word found = (x : A) → Is x → bits x ≡ word → found ≡ Some x
 
-module _ (l : ClosedView) (c : ClosedHeap) (o : ObjId) (same : left_by l ≡ c) (left : HasLeft l) (born : IsBorn (heap_left c) o) (word : ℕ) (is : word ≡ words_of l.passes l.words (cell o)) (found : Cell) (finds : Finds IsCell cell_bits word (Some found)) where
-  abbrev z : Object
-  z = object_of (heap_left c) o
+module _ (w : Words) (o : ObjId) (z : Object) (h : IsWritten w o z) where
+  -- the cell and the header are found for their words
+  pub cell_found : (x : Option Cell) (word : ℕ) → word ≡ w (cell o) → Finds IsCell cell_bits word x → x ≡ Some h.found
+  cell_found x word is finds = finds h.found h.is_cell (sym (is ∙ h.word))
 
-  abbrev w : Words
-  w = words_of l.passes l.words
+  pub header_found : (found : Cell) (x : Option Header) (word : ℕ) → Some found ≡ Some h.found → word ≡ stored w found.address → Finds IsHeader header_bits word x → x ≡ Some (header_for h.room)
+  header_found found x word same read finds =
+      let one : found ≡ h.found = cc in
+      finds (header_for h.room) (is_header h.room h.capacity) (sym (read ∙ ap (λ (c : Cell). stored w c.address) one ∙ h.header))
 
-  h : IsWritten w o z
-  h = written l c o same left born
-
-  at_found : found.address ≡ h.found.address
-  at_found =
-      let both : Some found ≡ Some h.found = finds h.found h.is_cell (sym (is ∙ h.word)) in
-      let one : found ≡ h.found = cc in ap (λ (x : Cell). x.address) one
-
-  -- by the words that were read: the number of names, and the two words of pair j
-  pub pair_found : (j i k count first : ℕ) → i ≡ j → k ≡ j → count ≡ stored w (found.address + 1) → first ≡ stored w (found.address + 2 + 2 * k) → i < count → HasPair z j first (stored w (found.address + 2 + 2 * k + 1))
-  pair_found j i k count first ij kj counted read lt =
-      let here : h.found.address + (2 + 2 * j) ≡ found.address + 2 + 2 * k = (let e = at_found in omega (arith, e, kj)) in
-      let next : h.found.address + (3 + 2 * j) ≡ found.address + 2 + 2 * k + 1 = (let e = at_found in omega (arith, e, kj)) in
-      let few : j < stored w (h.found.address + 1) = subst (λ (a : ℕ). j < stored w (a + 1)) at_found (omega (arith, lt, ij, counted)) in
-      let p = pair_at (λ k. stored w (h.found.address + k)) h.room z j h.properties h.words few in
-      subst (λ (a : ℕ × ℕ). HasPair z j a.0 a.1) (λ i. ((ap (stored w) here ∙ sym read) i, stored w (next i))) p
-
-  header_found : stored w found.address ≡ dictionary_header h.room
-  header_found = ap (stored w) at_found ∙ h.header
-
-  -- its header is found too
-  pub has_header : (x : Option Header) (word : ℕ) → word ≡ stored w found.address → Finds IsHeader header_bits word x → x ≢ None
-  has_header x word read has e =
-      let there : x ≡ Some (header_for h.room) = has (header_for h.room) (is_header h.room h.capacity) (sym (read ∙ header_found)) in
-      let gone : x ≡ None = e in absurd cc
-
-  pub value_found : (x : Header) (word i k : ℕ) → word ≡ stored w found.address → Finds IsHeader header_bits word (Some x) → k ≡ i → i < x.elements → IsWordOf (property z (Index i)) (stored w (found.address + DICTIONARY_NEED + k))
-  value_found x word i k read has ki lt =
-      let both : Some x ≡ Some (header_for h.room) = has (header_for h.room) (is_header h.room h.capacity) (sym (read ∙ header_found)) in
-      let one : x ≡ header_for h.room = cc in
-      let within : i < h.room = subst (λ (y : Header). i < y.elements) one lt in
-      let place : h.found.address + (DICTIONARY_NEED + i) ≡ found.address + DICTIONARY_NEED + k = (let e = at_found in omega (arith, e, ki)) in
-      subst (λ (a : ℕ). IsWordOf (property z (Index i)) (stored w a)) place (element_at (λ k. stored w (h.found.address + k)) h.room z i h.properties h.words within)
+  -- they say where the properties are
+  pub block_found : (found : Cell) (x : Header) → Some found ≡ Some h.found → Some x ≡ Some (header_for h.room) → IsBlockOf w z (record { address = found.address; elements = x.elements })
+  block_found found x same_cell same_header =
+      let cells : found ≡ h.found = cc in
+      let headers : x ≡ header_for h.room = cc in
+      record {
+        properties = subst (λ (p : Cell × Header). HasProperties (λ k. stored w (p.0.address + k)) p.1.elements z) (sym (λ i. (cells i, headers i))) h.properties;
+        words = h.words;
+      }

@@ -1,26 +1,24 @@
 // A heap that was closed.
-ghost use Rattle.std.specs.Prelude.{◌≡◌, ◌<◌, ◌≤◌, ℕ, None, Option, length, slice_get};
+ghost use Rattle.std.specs.Prelude.{◌≡◌, ◌≤◌, ℕ, None, length, slice_get};
 ghost use Rattle.jo_value.specs.declared.value.Key.TheVariants.{Index};
-ghost use Rattle.jo_value.specs.declared.value.Value.{Value};
 ghost use Rattle.jo_model.specs.Heaps.{IsBorn, object_of, objects_of};
 ghost use Rattle.jo_model.specs.Objects.{property};
 ghost use Rattle.jo_rule.specs.Ending.{HasJoinedAll};
 ghost use Rattle.jo_steps.specs.Views.{IsPassOf};
 ghost use Rattle.jo_heap.specs.Closing.{IsOneHistory, heap_left};
-ghost use Rattle.jo_heap.specs.inner.Values.{IsWordOf};
 
-use crate::left::Left;
+use crate::block::Block;
+use crate::named_words::NamedWords;
+use jo_model::Objects;
 use jo_steps::{Heap, Pass};
-use jo_value::{
-    DICTIONARY_NEED, MOST_OBJECTS, NameId, ObjId, Slot, Value, cell_of, header_of, slot_of,
-};
+use jo_value::{MOST_OBJECTS, NameId, ObjId, Value};
 use std::marker::Model;
 
 /// What a heap left when it was closed. Contracts see how many passes it had, and what the first one knew, which had taken in
 /// each other: the history that it had seen, and the calls, counts and tries of all passes.
 #[derive(Drop)]
 pub struct Closed {
-    left: Left,
+    words: NamedWords,
 }
 
 impl Model for Closed {
@@ -31,9 +29,9 @@ impl Model for Closed {
 
     ghost Value = { ClosedHeap };
 
-    ghost view = { λ c. record { passes = c.left.passes; view = c.left.view } };
+    ghost view = { λ c. record { passes = c.words.passes; view = c.words.view } };
 
-    ghost invariant = { λ c. HasEnded c.left.passes (words_of c.left.passes c.left.words) c.left.view × (c.left.view.flat ≡ false) };
+    ghost invariant = { λ c. HasEnded c.words.passes (words_of c.words.passes c.words.words) c.words.view × (c.words.view.flat ≡ false) };
 }
 
 /// Ends a heap whose first pass has taken in each other.
@@ -44,7 +42,7 @@ pub fn close(heap: Heap, pass: Pass) -> Closed
     ensures history { IsOneHistory result }
 {
     Closed {
-        left: Left::of(heap, pass),
+        words: NamedWords::of(heap, pass),
     }
 }
 
@@ -54,16 +52,15 @@ impl Closed {
         ensures passes { result ≡ self.now.passes }
         ensures left { result ≡ length (heap_left self.now) }
     {
-        self.left.passes()
+        self.words.passes()
     }
 
-    /// How many objects the pass has made.
+    /// How many objects the pass has made; none where the heap has no such pass.
     pub fn objects(&self, pass: u8) -> u16
-        requires { pass < self.now.passes }
         ensures { result ≡ length (objects_of (heap_left self.now) pass) }
     {
         for serial in 0..MOST_OBJECTS as u16 {
-            if self.left.cell(ObjId { pass, serial }) == 0 {
+            if self.words.cell(ObjId { pass, serial }) == 0 {
                 return serial;
             }
         }
@@ -75,14 +72,8 @@ impl Closed {
         requires { IsBorn (heap_left self.now) o }
         ensures { result ≡ slice_get (object_of (heap_left self.now) o).names at }
     {
-        let block = cell_of(self.left.cell(o))?.address;
-        if u64::from(at) >= self.left.stored(block + 1) {
-            return None;
-        }
-        let pair = block + 2 + 2 * u32::from(at);
-        let name = NameId(self.left.stored(pair) as u16);
-        let value = value_of(self.left.stored(pair + 1))?;
-        Some((name, value))
+        let block = Block::of(&self.words, o)?;
+        block.name(&self.words, at)
     }
 
     /// The value that an object has at an index. `None` where the index is not there.
@@ -90,11 +81,8 @@ impl Closed {
         requires { IsBorn (heap_left self.now) o }
         ensures { result ≡ property (object_of (heap_left self.now) o) (Index at) }
     {
-        let block = cell_of(self.left.cell(o))?.address;
-        if at >= header_of(self.left.stored(block))?.elements {
-            return None;
-        }
-        value_of(self.left.stored(block + DICTIONARY_NEED + u32::from(at)))
+        let block = Block::of(&self.words, o)?;
+        block.element(&self.words, at)
     }
 
     /// An index from which on an object has none.
@@ -102,22 +90,35 @@ impl Closed {
         requires { IsBorn (heap_left self.now) o }
         ensures beyond { (i : ℕ) → result ≤ i → property (object_of (heap_left self.now) o) (Index i) ≡ None }
     {
-        let Some(cell) = cell_of(self.left.cell(o)) else {
-            return 0;
-        };
-        match header_of(self.left.stored(cell.address)) {
-            Some(header) => header.elements,
+        match Block::of(&self.words, o) {
+            Some(block) => block.elements,
             None => 0,
         }
     }
 }
 
-// The value whose word this is. `None` where it is that of an absent one.
-fn value_of(word: u64) -> Option<Value>
-    ensures { (value : Option Value) → IsWordOf value word → result ≡ value }
-{
-    match slot_of(word)? {
-        Slot::Holds(value) => Some(value),
-        Slot::Absent => None,
+impl Objects for Closed {
+    ghost heap = { heap_left };
+
+    fn passes(&self) -> u8 {
+        Closed::passes(self)
+    }
+
+    fn objects(&self, pass: u8) -> u16 {
+        Closed::objects(self, pass)
+    }
+
+    fn name(&self, o: ObjId, at: u8) -> Option<(NameId, Value)> {
+        Closed::name(self, o, at)
+    }
+
+    fn element_from(&self, o: ObjId, low: u32) -> Option<(u16, Value)> {
+        let block = Block::of(&self.words, o)?;
+        for index in low..u32::from(block.elements) {
+            if let Some(value) = block.element(&self.words, index as u16) {
+                return Some((index as u16, value));
+            }
+        }
+        None
     }
 }

@@ -1,9 +1,9 @@
 //! A heap is opened with all its memory, its passes are joined, and its objects are read when it was closed.
 #![tactic(auto)]
 
+mod block;
 mod closed;
-mod left;
-mod numbers;
+mod named_words;
 mod open;
 mod words;
 

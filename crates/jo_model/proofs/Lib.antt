@@ -3,6 +3,9 @@ pub mod Places
 pub mod Putting
 pub mod Beginnings
 pub mod Rising
+pub mod InOrder
+pub mod Elements
+pub mod Rests
 pub mod WellFormedObjects
 pub mod WellFormed
 pub mod LegalSteps

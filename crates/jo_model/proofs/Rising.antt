@@ -15,7 +15,7 @@ RisesFrom low (n ∷ ns) = (low ≤ n) × RisesFrom (suc n) ns
 next-place : (n : ℕ) (ns : List ℕ) (k : ℕ) → get_or (n ∷ ns) (k + 1) 0 ≡ get_or ns k 0
 next-place n ns k = let e : k + 1 ≡ suc k = omega arith in ap (λ j. get_or (n ∷ ns) j 0) e
 
-tail-rises : (n : ℕ) (ns : List ℕ) → IsStrictlyIncreasing (n ∷ ns) → IsStrictlyIncreasing ns
+pub tail-rises : (n : ℕ) (ns : List ℕ) → IsStrictlyIncreasing (n ∷ ns) → IsStrictlyIncreasing ns
 tail-rises n ns up k h =
     let step : get_or ns k 0 < get_or (n ∷ ns) (suc k + 1) 0 = up (suc k) (omega arith) in
     let e : get_or (n ∷ ns) (suc k + 1) 0 ≡ get_or ns (k + 1) 0 = let same : suc k + 1 ≡ suc (k + 1) = omega arith in ap (λ j. get_or (n ∷ ns) j 0) same in

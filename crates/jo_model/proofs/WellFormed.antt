@@ -1,5 +1,5 @@
 -- Each heap that calls make is well formed.
-use Rattle.std.proofs.Common.{◌≡◌, ◌<◌, ◌≤◌, ◌-◌, ℕ, Bool, true, false, List, [], ◌∷◌, ◌++◌, ◌^◌, length, sym, refl, ap, subst, arith, ⊎_elim, get_or, set, nat_lt}
+use Rattle.std.proofs.Common.{◌≡◌, ◌<◌, ◌≤◌, ◌-◌, ℕ, Bool, true, false, List, [], ◌∷◌, ◌++◌, ◌^◌, length, sym, refl, ap, subst, arith, ⊎_elim, get_or, set, nat_lt, fold}
 use Rattle.std.specs.Prelude.{All, Result, Ok, Err, IfOk, OnErr}
 use Rattle.std.specs.List.{IsDistinct}
 use Rattle.std.proofs.lemmas.Bool.{cases_lt, ltb-true}
@@ -12,6 +12,7 @@ use Rattle.jo_model.specs.declared.call.Call.TheVariants as call
 use Rattle.jo_model.specs.declared.call.Reply.{Reply}
 use Rattle.jo_model.specs.Objects.{Object, empty_object}
 use Rattle.jo_model.specs.Heaps.{Heap, heap_at_start, objects_of, object_of, with_object}
+use Rattle.jo_model.specs.Logs.{change, mark, Log, after, after_log_entry}
 use Rattle.jo_model.specs.One.{one}
 use Rattle.jo_model.specs.WellFormed.{IsWellFormed, AreWellFormed, IsWellFormedHeap}
 use Rattle.jo_model.proofs.WellFormedObjects.{well_formed-put, well_formed-delete, well_formed-cas}
@@ -93,3 +94,14 @@ pub well_formed-answer : {E : Type 0} (heap new : Heap) (pass : ℕ) (c : Call) 
     → OnErr result (new ≡ heap) → IsWellFormedHeap heap → IsWellFormedHeap new
 well_formed-answer heap new pass c (Ok answer) ok err well = subst IsWellFormedHeap (ap (λ p. p.0) ok) (well_formed-one heap pass c well)
 well_formed-answer heap new pass c (Err error) ok err well = subst IsWellFormedHeap (sym err) well
+
+-- each entry of a log leaves a heap that is well formed so
+module _ {M : Type 0} where
+  well_formed-entries : (heap : Heap) (log : Log M) → IsWellFormedHeap heap → IsWellFormedHeap (fold after_log_entry heap log)
+  well_formed-entries heap [] well = well
+  well_formed-entries heap (change pass call ∷ log) well = well_formed-entries (one heap pass call).0 log (well_formed-one heap pass call well)
+  well_formed-entries heap (mark pass noted ∷ log) well = well_formed-entries heap log well
+
+  -- so the heap that a log leaves is well formed
+  pub well_formed-after : (passes : ℕ) (log : Log M) → IsWellFormedHeap (after passes log)
+  well_formed-after passes log = well_formed-entries (heap_at_start passes) log (well_formed-start passes)

@@ -12,3 +12,4 @@ pub mod Rendered
 pub mod Calls
 pub mod Valid
 pub mod Fits
+pub mod Reading

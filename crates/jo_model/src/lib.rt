@@ -4,8 +4,10 @@
 mod call;
 mod fits;
 mod name_list;
+mod objects;
 mod plain;
 
 pub use call::{Call, Outcome, Reply, Spent};
 pub use name_list::NameList;
+pub use objects::Objects;
 pub use plain::{PlainHeap, PlainObject};

@@ -6,14 +6,18 @@ ghost use Rattle.jo_model.specs.Logs.{after};
 ghost use Rattle.jo_model.specs.Valid.{IsValidCall};
 ghost use Rattle.jo_model.specs.declared.call.Call.TheVariants.{Get, Has, Names};
 ghost use Rattle.jo_model.specs.declared.call.Reply.TheVariants as reply;
+ghost use Rattle.jo_model.specs.Objects.{Object, property};
+ghost use Rattle.jo_rule.specs.Dictionaries.{slot_in};
+ghost use Rattle.jo_steps.specs.Holding.{HasBlockOf, HasLock};
+ghost use Rattle.jo_dict.specs.Blocks.{OnlyCounts};
 ghost use Rattle.jo_guard.specs.Ready.{IsReady};
 ghost use Rattle.jo_guard.specs.Placing.{HasPlaced};
 
-use jo_dict::find;
+use jo_dict::{find, locate};
 use jo_guard::{let_go, wait_for_lock};
 use jo_model::{Call, NameList};
 use jo_rule::Event;
-use jo_steps::{Heap, Pass};
+use jo_steps::{Heap, Held, Pass};
 use jo_value::{Key, ObjId, Slot, Value};
 use std::sync::Wait;
 
@@ -26,7 +30,7 @@ pub fn get<R: Wait>(rt: &R, heap: &Heap, pass: &mut Pass, o: ObjId, key: Key) ->
     ensures storage { pass.new.view.storage ≡ pass.old.view.storage }
 {
     let held = wait_for_lock(rt, heap, pass, o);
-    let slot = find(heap, pass, &held, key);
+    let slot = look(heap, pass, &held, key);
     let_go(heap, pass, held, Event::Place(Call::Get { object: o, key }));
     match slot {
         Slot::Holds(value) => value,
@@ -43,7 +47,7 @@ pub fn has<R: Wait>(rt: &R, heap: &Heap, pass: &mut Pass, o: ObjId, key: Key) ->
     ensures storage { pass.new.view.storage ≡ pass.old.view.storage }
 {
     let held = wait_for_lock(rt, heap, pass, o);
-    let slot = find(heap, pass, &held, key);
+    let slot = look(heap, pass, &held, key);
     let_go(heap, pass, held, Event::Place(Call::Has { object: o, key }));
     match slot {
         Slot::Holds(_) => true,
@@ -63,4 +67,16 @@ pub fn names<R: Wait>(rt: &R, heap: &Heap, pass: &mut Pass, o: ObjId) -> NameLis
     let names = jo_dict::names(heap, pass, &held);
     let_go(heap, pass, held, Event::Place(Call::Names { object: o }));
     names
+}
+
+// What the held block has for a key.
+fn look(heap: &Heap, pass: &mut Pass, held: &Held, key: Key) -> Slot
+    requires held { HasLock heap.now pass.old held.now }
+    requires block { (z : Object) × HasBlockOf pass.old.view z }
+    ensures held { HasLock heap.now pass.new held.now }
+    ensures found { (z : Object) → HasBlockOf pass.old.view z → result ≡ slot_in (property z key) }
+    ensures only { OnlyCounts pass.old.view pass.new.view }
+{
+    let place = locate(heap, pass, held, key);
+    find(heap, pass, held, place)
 }

@@ -1,3 +1,2 @@
 pub mod FirstLine
-pub mod Rests
-pub mod InOrder
+pub mod Series

@@ -1,8 +1,6 @@
 //! The parts of the output of a run, printed as they are made.
 #![tactic(auto)]
 
-mod objects;
 mod print;
 
-pub use objects::Objects;
 pub use print::{print_heap, print_run};

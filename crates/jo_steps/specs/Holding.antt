@@ -12,7 +12,7 @@ use Rattle.jo_rule.specs.Contents.{HasWords}
 use Rattle.jo_rule.specs.Owned.{address_of}
 use Rattle.jo_rule.specs.Steps.{locked_cell, born_cell, MayBear}
 use Rattle.jo_value.specs.declared.value.ObjId.{ObjId}
-use Rattle.jo_steps.specs.Views.{HeldView}
+use Rattle.jo_steps.specs.Views.{HeapView, HeldView, IsPassOf, PassView}
 
 -- the lock of no object, for a view that holds none
 abbrev pub no_lock : Lock
@@ -50,6 +50,11 @@ pub record HoldsLock (passes : ℕ) (v : View) (held : HeldView) : Type 0 where
   pub header : slice_index (lock_of v).block 0 ≡ dictionary_header (lock_of v).room
   pub inside : held.cell.address + block_size (lock_of v).room ≤ MOST_STORAGE * passes
   pub there : is_object passes held.object ≡ true
+
+-- a pass of the heap holds the lock
+pub record HasLock (h : HeapView) (p : PassView) (held : HeldView) : Type 0 where
+  pub pass : IsPassOf h p
+  pub lock : HoldsLock h.passes p.view held
 
 -- the words of the block have the properties of a well-formed object
 pub record HasBlockOf (v : View) (z : Object) : Type 0 where

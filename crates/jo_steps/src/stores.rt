@@ -1,11 +1,10 @@
 // Stores to own words.
 ghost use Rattle.std.specs.Prelude.{◌≡◌, ◌≤◌};
 ghost use Rattle.jo_value.specs.declared.limits.TheConstants.{MOST_STORAGE};
-ghost use Rattle.jo_value.specs.declared.capacities.TheConstants.{MOST_PASSES};
 ghost use Rattle.jo_steps.specs.Views.{IsPassOf};
 ghost use Rattle.jo_steps.specs.Holding.{MayStoreOwn};
 ghost use Rattle.jo_steps.specs.Telling.{StoredOwn};
-ghost use Rattle.jo_steps.specs.inner.Storing.{first_word, used_after};
+ghost use Rattle.jo_steps.specs.inner.Storing.{used_after};
 
 use crate::turns::store_as;
 use crate::{Heap, Pass};
@@ -20,19 +19,11 @@ impl Heap {
         ensures pass { IsPassOf self.now pass.new }
         ensures view { StoredOwn self.now.passes pass.old.view at word pass.new.view }
     {
-        let storage = self.storage_at();
+        let storage = self.layout().storage_at();
         store_as::<Brand, ()>(self, &mut pass.seat, at, word, &());
         pass.counts.stores = pass.counts.stores.saturating_add(1);
         pass.used = self.used_after(pass.number, pass.used, at);
         pass.objects += u16::from(at < storage);
-    }
-
-    // The number in the table of the first word of a pass's storage.
-    fn first_word(&self, pass: u8) -> u32
-        ensures at { result ≡ first_word self.now.passes pass }
-        ensures few { self.now.passes ≤ MOST_PASSES }
-    {
-        self.storage_at() + MOST_STORAGE * u32::from(pass)
     }
 
     // How much of its storage a pass has used after a store to this word.
@@ -40,7 +31,7 @@ impl Heap {
         requires { used ≤ MOST_STORAGE }
         ensures { result ≡ used_after self.now.passes pass used at }
     {
-        let first = self.first_word(pass);
+        let first = self.layout().storage_of(pass);
         if first + used <= at && at < first + MOST_STORAGE {
             at - first + 1
         } else {

@@ -7,17 +7,12 @@ ghost use Rattle.jo_rule.specs.Names.{among_structures, among_objects, storage, 
 ghost use Rattle.jo_rule.specs.Opening.{AreOpening, opening_word, shared_cell};
 ghost use Rattle.jo_rule.specs.Owned.{root_node};
 
+use jo_layout::Layout;
 use jo_value::{
-    Cell, Change, DICTIONARY_NAMES, Header, Kind, MOST_OBJECTS, MOST_STORAGE, MOST_STRUCTURES,
-    NameId, Node, OBJECT_WORDS, OUT, SHARED_ADDRESS, STAMP_WORDS, STRUCTURE_WORDS, Sid, VALID,
-    cell_word, header_word, node_word,
+    Cell, Change, DICTIONARY_NAMES, Header, Kind, MOST_STRUCTURES, NameId, Node, OUT,
+    SHARED_ADDRESS, STAMP_WORDS, STRUCTURE_WORDS, Sid, VALID, cell_word, header_word, node_word,
 };
 use std::alloc::{AllocError, Global};
-
-// The words of the structures, and of the objects, of a pass.
-const STRUCTURE_AREA: u32 = STRUCTURE_WORDS as u32 * MOST_STRUCTURES as u32;
-
-const OBJECT_AREA: u32 = OBJECT_WORDS as u32 * MOST_OBJECTS as u32;
 
 fn root_word() -> u64
     ensures { result ≡ node_bits root_node }
@@ -94,29 +89,18 @@ fn opening_word_at(passes: u8, at: u32) -> u64
     requires { passes ≤ MOST_PASSES }
     ensures { result ≡ opening_word (word_numbered passes at) }
 {
-    let structures = 1 + u32::from(passes);
-    let objects = structures + STRUCTURE_AREA * u32::from(passes);
-    let storage = objects + OBJECT_AREA * u32::from(passes);
+    let layout = Layout { passes };
     if at == 0 {
         0
-    } else if at < structures {
+    } else if at < layout.structures_at() {
         OUT
-    } else if at < objects {
-        structure_word(at - structures)
-    } else if at < storage {
-        object_word(at - objects)
+    } else if at < layout.objects_at() {
+        structure_word(at - layout.structures_at())
+    } else if at < layout.storage_at() {
+        object_word(at - layout.objects_at())
     } else {
-        storage_word(at - storage)
+        storage_word(at - layout.storage_at())
     }
-}
-
-// How many words a heap of so many passes has.
-fn words_of_passes(passes: u8) -> u32
-    requires { passes ≤ MOST_PASSES }
-    ensures { result ≡ words_in_all passes }
-{
-    let area = STRUCTURE_AREA + OBJECT_AREA + MOST_STORAGE;
-    1 + (1 + area) * u32::from(passes)
 }
 
 /// The words of a heap of so many passes, at its start.
@@ -124,7 +108,7 @@ pub(crate) fn opening_words(alloc: Global, passes: u8) -> Result<Vec<u64>, Alloc
     requires { passes ≤ MOST_PASSES }
     ensures { IfOk result (λ words. AreOpening passes words.items) }
 {
-    let all = words_of_passes(passes);
+    let all = Layout { passes }.words_in_all();
     let mut words = Vec::with_capacity(alloc, all as usize)?;
     for at in 0..all {
         words.push(opening_word_at(passes, at))?;

@@ -6,7 +6,7 @@ ghost use Rattle.jo_totals.specs.inner.Parts.{AreBounded};
 
 use crate::properties::{element_tally, name_tally};
 use crate::total::Totals;
-use jo_render::Objects;
+use jo_model::Objects;
 use jo_value::ObjId;
 
 /// What a heap has in all. No memory is taken.

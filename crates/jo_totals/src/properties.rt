@@ -5,7 +5,7 @@ ghost use Rattle.jo_model.specs.Heaps.{object_of, IsBorn};
 ghost use Rattle.jo_totals.specs.inner.Parts.{tally_of, IsSumOf};
 
 use crate::tally::Tally;
-use jo_render::Objects;
+use jo_model::Objects;
 use jo_value::ObjId;
 
 // The properties of an object that have a name.

@@ -38,6 +38,17 @@ pub stayed : (z : Object) (key : Key) (found expected desired : Value) → Holds
 stayed z key found expected desired e other =
     let is : property z key ≡ Some found = there_by (property z key) found e in sym (cas_by z key expected desired (Some found) false is other)
 
+-- so it does where nothing is there
+pub stayed_absent : (z : Object) (key : Key) (expected desired : Value) → property z key ≡ None → z ≡ (cas_in z key expected desired).0
+stayed_absent z key expected desired e = sym (cas_by z key expected desired None false e refl)
+
+none_by : (p : Option Value) → is_some p ≡ false → p ≡ None
+none_by None e = refl
+none_by (Some x) e = absurd (let no_ : true ≡ false = e in cc)
+
+pub is_absent : (z : Object) (key : Key) → has_property z key ≡ false → property z key ≡ None
+is_absent z key e = none_by (property z key) e
+
 -- ---- the value that was found
 
 pub found_value : (z : Object) (key : Key) (found : Value) → Holds found ≡ slot_in (property z key) → value_of z key ≡ found

@@ -11,7 +11,7 @@ ghost use Rattle.jo_model.specs.declared.call.Call.TheVariants.{Cas, Delete, Put
 ghost use Rattle.jo_model.specs.declared.call.Reply.TheVariants as reply;
 ghost use Rattle.jo_model.specs.declared.call.Spent.{Spent};
 ghost use Rattle.jo_rule.specs.Dictionaries.{slot_in};
-ghost use Rattle.jo_steps.specs.Holding.{HasBlockOf, HoldsLock, lock_of};
+ghost use Rattle.jo_steps.specs.Holding.{HasBlockOf, HasLock, lock_of};
 ghost use Rattle.jo_steps.specs.Views.{IsPassOf};
 ghost use Rattle.jo_dict.specs.Blocks.{OnlyBlock};
 ghost use Rattle.jo_guard.specs.Ready.{IsReady};
@@ -20,8 +20,8 @@ ghost use Rattle.jo_write.specs.Answers.{IsPutFault, TakesStorage, delete_reply,
 ghost use Rattle.jo_write.specs.declared.faults.PutFault.TheVariants as put_fault;
 
 use crate::PutFault;
-use crate::rooms::{Room, block_with, room_for};
-use jo_dict::{add, find, take_out};
+use crate::rooms::block_with;
+use jo_dict::{Place, add, find, locate, take_out};
 use jo_guard::{let_go, let_go_moved, wait_for_lock};
 use jo_model::{Call, Spent};
 use jo_rule::Event;
@@ -52,17 +52,17 @@ pub fn put<R: Wait>(
         key,
         value,
     };
-    match room_for(heap, pass, &held, key) {
-        Room::Enough => {
-            add(heap, pass, &held, key, value);
+    match locate(heap, pass, &held, key) {
+        Place::At(spot) => {
+            add(heap, pass, &held, spot, value);
             let_go(heap, pass, held, Event::Place(call));
             Ok(())
         }
-        Room::NoMoreNames => {
+        Place::NoMoreNames => {
             let_go(heap, pass, held, Event::Place(call));
             Err(PutFault::TooManyNames)
         }
-        Room::Beyond(index) => match block_with(heap, pass, &held, index, value) {
+        Place::Beyond(index) => match block_with(heap, pass, &held, index, value) {
             Ok(address) => {
                 let_go_moved(heap, pass, held, address, Event::Place(call));
                 Ok(())
@@ -91,7 +91,8 @@ pub fn delete<R: Wait>(
     ensures storage { pass.new.view.storage ≡ pass.old.view.storage }
 {
     let held = wait_for_lock(rt, heap, pass, o);
-    take_out(heap, pass, &held, key);
+    let place = locate(heap, pass, &held, key);
+    take_out(heap, pass, &held, place);
     let_go(
         heap,
         pass,
@@ -142,20 +143,23 @@ fn swap(
     expected: Value,
     desired: Value,
 ) -> Slot
-    requires pass { IsPassOf heap.now pass.old }
-    requires held { HoldsLock heap.now.passes pass.old.view held.now }
+    requires held { HasLock heap.now pass.old held.now }
     requires block { HasBlockOf pass.old.view (lock_of pass.old.view).content }
     requires value { IsSlot (Holds desired) }
-    ensures pass { IsPassOf heap.now pass.new }
-    ensures held { HoldsLock heap.now.passes pass.new.view held.now }
+    ensures held { HasLock heap.now pass.new held.now }
     ensures found { result ≡ slot_in (property (lock_of pass.old.view).content key) }
     ensures block { HasBlockOf pass.new.view (cas_in (lock_of pass.old.view).content key expected desired).0 }
     ensures only { OnlyBlock pass.old.view pass.new.view }
 {
-    let slot = find(heap, pass, held, key);
-    match slot {
-        Slot::Holds(found) if found == expected => add(heap, pass, held, key, desired),
-        _ => {}
+    let place = locate(heap, pass, held, key);
+    let slot = find(heap, pass, held, place);
+    match place {
+        Place::At(spot) => match slot {
+            Slot::Holds(found) if found == expected => add(heap, pass, held, spot, desired),
+            _ => {}
+        },
+        Place::NoMoreNames => {}
+        Place::Beyond(_) => {}
     }
     slot
 }

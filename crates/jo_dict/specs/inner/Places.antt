@@ -1,5 +1,6 @@
 -- Where things stand in a block, by its words alone.
 use Rattle.std.specs.Prelude.{◌≡◌, ◌≢◌, ℕ, zero, suc, ◌+◌, ◌*◌, ◌^◌, ◌<◌, ◌≤◌, List, [], ◌∷◌, ◌++◌}
+use Rattle.jo_value.specs.declared.capacities.TheConstants.{DICTIONARY_NAMES}
 use Rattle.jo_value.specs.declared.value.NameId.{NameId}
 
 -- where a name stands first among the pairs of a block, or how many there are where it does not
@@ -7,6 +8,12 @@ pub record IsPlaceOf (words : ℕ → ℕ) (names name place : ℕ) : Type 0 whe
   pub to : place ≤ names
   pub before : (j : ℕ) → j < place → words (2 + 2 * j) ≢ name
   pub here : place < names → words (2 + 2 * place) ≡ name
+
+-- a block has so many pairs, and a name stands there among them, or behind them where it is not there
+pub record IsNamed (words : ℕ → ℕ) (name : NameId) (names place : ℕ) : Type 0 where
+  pub count : words 1 ≡ names
+  pub few : names ≤ DICTIONARY_NAMES
+  pub at : IsPlaceOf words names name.0 place
 
 -- the first so many pairs have names
 pub record AreNameWords (words : ℕ → ℕ) (names : ℕ) : Type 0 where

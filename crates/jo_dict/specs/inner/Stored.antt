@@ -5,7 +5,7 @@ use Rattle.jo_model.specs.Objects.{Object}
 use Rattle.jo_rule.specs.Steps.{IsFilled}
 use Rattle.jo_rule.specs.Views.{View, word_in}
 use Rattle.jo_steps.specs.Holding.{lock_of}
-use Rattle.jo_dict.specs.Blocks.{HasRoomFor, OnlyStorage}
+use Rattle.jo_dict.specs.Blocks.{MayAppend, OnlyStorage}
 
 -- the words of the block whose lock the view holds, and those of the own storage
 abbrev pub held_words : View → ℕ → ℕ
@@ -41,12 +41,12 @@ pub record IsWordOfBlock (v : View) (first k : ℕ) : Type 0 where
   pub from : v.storage.named ≤ first
   pub to : first + k < v.storage.used
 
--- it has the properties of some object, no cell names it, and it has room for this key
+-- it has the properties of some object, no cell names it, and it has room for this key, which is not there where it is a name
 pub record HasFreshBlock (v : View) (first : ℕ) (key : Key) : Type 0 where
   pub elements : ℕ
   pub object : Object
   pub filled : IsFilled v.storage first elements object
-  pub room : HasRoomFor elements object key
+  pub room : MayAppend elements object key
 
 -- words were stored where the storage was used before
 pub record KeepsArea (v u : View) : Type 0 where

@@ -5,10 +5,10 @@ ghost use Rattle.jo_print.specs.Printers.{Prints};
 ghost use Rattle.jo_model.specs.Rendered.{object_line, heap_bytes};
 ghost use Rattle.jo_model.specs.Heaps.{objects_of, object_of, IsBorn};
 
-use crate::Objects;
 use crate::print::properties::print_properties;
 use crate::print::value::print_object;
 use jo_io::Sink;
+use jo_model::Objects;
 use jo_print::Printer;
 use jo_value::{ObjId, Texts};
 

@@ -8,10 +8,10 @@ ghost use Rattle.jo_model.specs.Heaps.{object_of, IsBorn};
 ghost use Rattle.jo_render.specs.inner.Fragments.{properties_bytes};
 ghost use Rattle.jo_render.specs.inner.Series.{lead, series};
 
-use crate::Objects;
 use crate::print::quoted::print_quoted;
 use crate::print::value::print_property_value;
 use jo_io::Sink;
+use jo_model::Objects;
 use jo_print::Printer;
 use jo_value::{NameId, ObjId, TextId, Texts, Value};
 

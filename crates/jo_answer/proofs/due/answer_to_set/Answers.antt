@@ -2,10 +2,10 @@ use Rattle.std.proofs.Common.{◌≡◌, ◌∙◌, ◌≤◌, length, sym, ap, 
 use Rattle.std.proofs.lemmas.List.{length-map}
 use Rattle.jo_value.specs.declared.limits.TheConstants.{MOST_SCRIPTS}
 use Rattle.jo_tree.specs.ScriptViews.{script_tree}
+use Rattle.jo_model.proofs.WellFormed.{well_formed-after}
 use Rattle.jo_parse.specs.Parsed.{Parsed, trees_of}
 use Rattle.jo_answer.specs.Answers.{IsRun}
 use Rattle.jo_answer.specs.Texts.{ended_bytes}
-use Rattle.jo_answer.proofs.Formed.{formed_left}
 use Rattle.jo_answer.proofs.Outputs.{output_left}
 use Rattle.jo_answer.proofs.Runnable.{due_of_run}
 use Rattle.jo_answer.proofs.due.answer_to_set.Goals as goal
@@ -33,4 +33,4 @@ returns-clause-printable g c =
     let count = length-map c.args.set.0 script_tree in
     let seen = ap (λ (s : Parsed). length s.0) c.set.view_is in
     let few : length ended.scripts.items ≤ MOST_SCRIPTS = omega (arith, long, count, seen, c.set.invariant.1) in
-    (few, formed_left ended.closed)
+    (few, well_formed-after ended.closed.passes ended.closed.view.past.seen)

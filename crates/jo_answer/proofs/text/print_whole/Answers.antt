@@ -4,5 +4,4 @@ use Rattle.jo_answer.proofs.text.print_whole.Goals as goal
 pub returns : goal.returns
 returns g c =
     let scripts = rw c.deref.ensures.value at c.print_scripts.ensures in
-    let heap = rw c.of.ensures at c.print_heap.ensures in
-    prints-both scripts heap
+    prints-both scripts c.print_heap.ensures

@@ -8,11 +8,11 @@ use Rattle.jo_calls_tests.proofs.held.delete_held.Goals as goal
 pub let_go-requires-clause-event : goal.let_go-requires-clause-event
 let_go-requires-clause-event g c =
     let taken = holds_taken c.wait_for_lock-held.ensures.taken in
-    let found = holds_read (holds_written taken c.take_out.ensures.only c.take_out.ensures.held (c.take_out.ensures.block _ taken.block)) c.find.ensures.only in
+    let found = holds_read (holds_written taken c.remove.ensures.only c.remove.ensures.held.lock (c.remove.ensures.block _ taken.block)) c.look.ensures.only in
     may_place found.holding (Delete c.args.o (Name c.args.name)) refl (record { object = c.requires.may.born; key = tt; values = tt }) tt
 
 pub returns-clause-may : goal.returns-clause-may
 returns-clause-may g c =
     let taken = holds_taken c.wait_for_lock-held.ensures.taken in
-    let found = holds_read (holds_written taken c.take_out.ensures.only c.take_out.ensures.held (c.take_out.ensures.block _ taken.block)) c.find.ensures.only in
+    let found = holds_read (holds_written taken c.remove.ensures.only c.remove.ensures.held.lock (c.remove.ensures.block _ taken.block)) c.look.ensures.only in
     may_again c.requires.may c.let_go.ensures.pass found.holding found.used c.let_go.ensures.view

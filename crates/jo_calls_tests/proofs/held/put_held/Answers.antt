@@ -10,28 +10,28 @@ use Rattle.jo_guard.proofs.Holding.{may_place}
 use Rattle.jo_calls_tests.proofs.Keeping.{holds_read, holds_taken, holds_written, may_again, same_content}
 use Rattle.jo_calls_tests.proofs.held.put_held.Goals as goal
 
-pub find-requires-2-clause-block : goal.find-requires-2-clause-block
-find-requires-2-clause-block g c =
-    let counted = holds_read (holds_read (holds_taken c.wait_for_lock-held.ensures.taken) c.find.ensures.only) c.len.ensures.only in
-    (_, c.add.ensures.block _ counted.block)
+pub look-requires-2-clause-block : goal.look-requires-2-clause-block
+look-requires-2-clause-block g c =
+    let counted = holds_read (holds_read (holds_taken c.wait_for_lock-held.ensures.taken) c.look.ensures.only) c.len.ensures.only in
+    (_, c.place.ensures.block _ counted.block)
 
 pub let_go-requires-clause-event : goal.let_go-requires-clause-event
 let_go-requires-clause-event g c =
-    let counted = holds_read (holds_read (holds_taken c.wait_for_lock-held.ensures.taken) c.find.ensures.only) c.len.ensures.only in
-    let found = holds_read (holds_written counted c.add.ensures.only c.add.ensures.held (c.add.ensures.block _ counted.block)) c.find-2.ensures.only in
+    let counted = holds_read (holds_read (holds_taken c.wait_for_lock-held.ensures.taken) c.look.ensures.only) c.len.ensures.only in
+    let found = holds_read (holds_written counted c.place.ensures.only c.place.ensures.held.lock (c.place.ensures.block _ counted.block)) c.look-2.ensures.only in
     let key : IsKeyWord (Name c.args.name) = search rules in
     may_place found.holding (Put c.args.o (Name c.args.name) (Bool c.args.flag)) refl (record { object = c.requires.may.born; key = tt; values = tt }) (key, (tt, tt))
 
 pub let_go-requires-clause-block : goal.let_go-requires-clause-block
 let_go-requires-clause-block g c =
-    let counted = holds_read (holds_read (holds_taken c.wait_for_lock-held.ensures.taken) c.find.ensures.only) c.len.ensures.only in
-    let found = holds_read (holds_written counted c.add.ensures.only c.add.ensures.held (c.add.ensures.block _ counted.block)) c.find-2.ensures.only in
-    let same = same_content c.wait_for_lock-held.new.pass.view c.find.new.pass.view c.len.new.pass.view c.add.new.pass.view c.find-2.new.pass.view
-    c.find.ensures.only c.len.ensures.only c.add.ensures.only c.find-2.ensures.only in
-    subst (λ (z : Object). HasBlockOf c.find-2.new.pass.view (put_in z (Name c.args.name) (Bool c.args.flag)).0) (sym same) found.block
+    let counted = holds_read (holds_read (holds_taken c.wait_for_lock-held.ensures.taken) c.look.ensures.only) c.len.ensures.only in
+    let found = holds_read (holds_written counted c.place.ensures.only c.place.ensures.held.lock (c.place.ensures.block _ counted.block)) c.look-2.ensures.only in
+    let same = same_content c.wait_for_lock-held.new.pass.view c.look.new.pass.view c.len.new.pass.view c.place.new.pass.view c.look-2.new.pass.view
+    c.look.ensures.only c.len.ensures.only c.place.ensures.only c.look-2.ensures.only in
+    subst (λ (z : Object). HasBlockOf c.look-2.new.pass.view (put_in z (Name c.args.name) (Bool c.args.flag)).0) (sym same) found.block
 
 pub returns-clause-may : goal.returns-clause-may
 returns-clause-may g c =
-    let counted = holds_read (holds_read (holds_taken c.wait_for_lock-held.ensures.taken) c.find.ensures.only) c.len.ensures.only in
-    let found = holds_read (holds_written counted c.add.ensures.only c.add.ensures.held (c.add.ensures.block _ counted.block)) c.find-2.ensures.only in
+    let counted = holds_read (holds_read (holds_taken c.wait_for_lock-held.ensures.taken) c.look.ensures.only) c.len.ensures.only in
+    let found = holds_read (holds_written counted c.place.ensures.only c.place.ensures.held.lock (c.place.ensures.block _ counted.block)) c.look-2.ensures.only in
     may_again c.requires.may c.let_go.ensures.pass found.holding found.used c.let_go.ensures.view

@@ -15,7 +15,6 @@ loop-place-preserved c =
     let word = c.load_held-name.ensures.word ∙ (λ i. same_words v loop.pass.view loop.invariant.only i (c.name_at.ensures i)) in
     let next : suc loop.place ≡ loop.place + 1 = omega arith in
     record {
-      pass = c.load_held-name.ensures.pass;
       held = c.load_held-name.ensures.held;
       only = counts_then v loop.pass.view c.load_held-name.new.pass.view loop.invariant.only c.load_held-name.ensures.only;
       list = c.push.ensures ∙ (λ i. loop.invariant.list i ++ of (word i) ∷ []) ∙ ap (names_in f) next;

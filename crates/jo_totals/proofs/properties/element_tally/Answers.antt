@@ -1,9 +1,9 @@
 use Rattle.std.proofs.Common.{ℕ, ◌+◌, ◌∷◌, drop, ap, sym, ◌∙◌, arith, rules, Fits, w16}
 use Rattle.jo_value.specs.declared.value.Value.{Value}
 use Rattle.jo_model.specs.Heaps.{object_of}
-use Rattle.jo_render.specs.Reading.{place_from}
-use Rattle.jo_render.proofs.InOrder.{found-next}
-use Rattle.jo_render.proofs.Rests.{rest-end}
+use Rattle.jo_model.specs.Reading.{place_from}
+use Rattle.jo_model.proofs.InOrder.{found-next}
+use Rattle.jo_model.proofs.Rests.{rest-end}
 use Rattle.jo_totals.proofs.Parts.{leaves-more, leaves-end}
 use Rattle.jo_totals.proofs.properties.element_tally.Goals as goal
 

@@ -1,6 +1,6 @@
 use Rattle.std.proofs.Common.{◌≤◌, ◌-◌, ◌^◌, drop}
 use Rattle.jo_model.specs.Heaps.{object_of}
-use Rattle.jo_render.specs.Reading.{place_from}
+use Rattle.jo_model.specs.Reading.{place_from}
 use Rattle.jo_totals.proofs.Parts.{Leaves}
 use Rattle.jo_totals.proofs.properties.element_tally.Given as goal
 

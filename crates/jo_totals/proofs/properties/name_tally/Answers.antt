@@ -2,7 +2,7 @@ use Rattle.std.proofs.Common.{◌+◌, drop, arith}
 use Rattle.jo_value.specs.declared.value.NameId.{NameId}
 use Rattle.jo_value.specs.declared.value.Value.{Value}
 use Rattle.jo_model.specs.Heaps.{object_of}
-use Rattle.jo_render.proofs.Rests.{rest-next, rest-end, within-next}
+use Rattle.jo_model.proofs.Rests.{rest-next, rest-end, within-next}
 use Rattle.jo_totals.proofs.Parts.{leaves-more, leaves-end}
 use Rattle.jo_totals.proofs.properties.name_tally.Goals as goal
 

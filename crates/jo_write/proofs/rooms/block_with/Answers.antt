@@ -19,4 +19,4 @@ returns-clause-made c =
     let at = v.storage.used in
     let here = made.here ∙ ap (λ (x : View). address_of x.number at) (sym made.only) in
     made_with v w c.fill.new.pass.view room (least_above ELEMENT_CAPACITIES c.args.index) c.in_ok-address.address z (put_in z (Index c.args.index) c.args.value).0 c.capacity_above.ensures.least made
-    (c.fill.ensures.block at room z here made.filled) (λ j lt. c.fill.ensures.others at room j z here made.filled (inl lt)) c.fill.ensures.used c.fill.ensures.named c.fill.ensures.only
+    (c.fill.ensures.block at room z here made.filled c.capacity_above.ensures.above) (λ j lt. c.fill.ensures.others at room j z here made.filled (inl lt)) c.fill.ensures.used c.fill.ensures.named c.fill.ensures.only

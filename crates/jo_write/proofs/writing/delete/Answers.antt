@@ -2,15 +2,18 @@ use Rattle.std.proofs.Common.{refl}
 use Rattle.jo_model.specs.declared.call.Call.TheVariants as call
 use Rattle.jo_guard.proofs.Holding.{may_place}
 use Rattle.jo_guard.proofs.Finishing.{ready_still}
-use Rattle.jo_write.proofs.Held.{changed_used, held_changed}
+use Rattle.jo_write.proofs.Held.{held_written, written_used}
 use Rattle.jo_write.proofs.writing.delete.Goals as goal
 
 pub let_go-requires-clause-event : goal.let_go-requires-clause-event
 let_go-requires-clause-event g c =
-    may_place (held_changed c.wait_for_lock-held.ensures.taken c.take_out.ensures.only c.take_out.ensures.held) (call.Delete c.args.o c.args.key) refl c.requires.valid tt
+    let held = held_written c.wait_for_lock-held.ensures.taken c.locate-place.ensures.only c.take_out.new.pass.view c.take_out.ensures.only c.take_out.ensures.held.lock in
+    may_place held (call.Delete c.args.o c.args.key) refl c.requires.valid tt
 
 pub returns-clause-ready : goal.returns-clause-ready
 returns-clause-ready g c =
     let taken = c.wait_for_lock-held.ensures.taken in
+    let looked = c.locate-place.ensures.only in
+    let u = c.take_out.new.pass.view in
     let only = c.take_out.ensures.only in
-    ready_still c.requires.ready c.let_go.ensures.pass (held_changed taken only c.take_out.ensures.held) c.let_go.ensures.view (changed_used taken only)
+    ready_still c.requires.ready c.let_go.ensures.pass (held_written taken looked u only c.take_out.ensures.held.lock) c.let_go.ensures.view (written_used taken looked u only)

@@ -4,4 +4,4 @@ use Rattle.jo_heap.proofs.closed.Closed.passes.Goals as goal
 
 pub returns-clause-left : goal.returns-clause-left
 returns-clause-left c =
-    c.passes.ensures ∙ lists_left c.self.inside.left c.args.self.now c.self.view_is c.self.invariant
+    c.passes.ensures ∙ lists_left c.self.inside.words c.args.self.now c.self.view_is c.self.invariant

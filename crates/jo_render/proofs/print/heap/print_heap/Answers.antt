@@ -2,7 +2,7 @@ use Rattle.std.proofs.Common.{refl, arith, []}
 use Rattle.std.specs.List.{enumerate_from, flat_map}
 use Rattle.jo_model.specs.Rendered.{object_line}
 use Rattle.jo_print.proofs.Printed.{leaves-start, leaves-more}
-use Rattle.jo_render.proofs.Rests.{numbered-rest}
+use Rattle.jo_model.proofs.Rests.{numbered-rest}
 use Rattle.jo_render.proofs.print.heap.print_heap.Goals as goal
 
 pub loop-pass-init : goal.loop-pass-init

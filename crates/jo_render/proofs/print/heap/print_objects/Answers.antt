@@ -3,7 +3,7 @@ use Rattle.jo_model.specs.Heaps.{objects_of}
 use Rattle.jo_model.specs.Objects.{empty_object}
 use Rattle.jo_model.specs.Rendered.{object_line}
 use Rattle.jo_print.proofs.Printed.{leaves-start, leaves-more}
-use Rattle.jo_render.proofs.Rests.{numbered-rest}
+use Rattle.jo_model.proofs.Rests.{numbered-rest}
 use Rattle.jo_render.proofs.print.heap.print_objects.Goals as goal
 
 pub loop-serial-init : goal.loop-serial-init

@@ -1,12 +1,13 @@
 use Rattle.std.proofs.Common.{ℕ, ◌+◌, ◌∷◌, drop, map, ap, sym, ◌∙◌, arith}
 use Rattle.jo_value.specs.declared.value.Value.{Value}
 use Rattle.jo_model.specs.Heaps.{object_of}
-use Rattle.jo_render.specs.Reading.{place_from}
+use Rattle.jo_model.specs.Reading.{place_from}
 use Rattle.jo_model.specs.Rendered.{element_bytes}
 use Rattle.jo_print.proofs.Printed.{leaves-start, leaves-more, leaves-end, prints-both}
 use Rattle.jo_render.specs.inner.Series.{series}
-use Rattle.jo_render.proofs.InOrder.{rest-zero, found-next, series-cons, series-nil}
-use Rattle.jo_render.proofs.Rests.{rest-end}
+use Rattle.jo_model.proofs.InOrder.{rest-zero, found-next}
+use Rattle.jo_render.proofs.Series.{series-cons, series-nil}
+use Rattle.jo_model.proofs.Rests.{rest-end}
 use Rattle.jo_render.proofs.print.properties.print_elements.Goals as goal
 
 pub loop-index-init : goal.loop-index-init

@@ -1,7 +1,7 @@
 use Rattle.std.proofs.Common.{◌-◌, ◌^◌, codes, map, drop}
 use Rattle.jo_model.specs.Heaps.{object_of}
 use Rattle.jo_model.specs.Printed.{joined}
-use Rattle.jo_render.specs.Reading.{place_from}
+use Rattle.jo_model.specs.Reading.{place_from}
 use Rattle.jo_model.specs.Rendered.{element_bytes}
 use Rattle.jo_print.proofs.Printed.{Leaves}
 use Rattle.jo_render.specs.inner.Series.{series}

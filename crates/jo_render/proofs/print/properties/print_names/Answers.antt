@@ -5,8 +5,8 @@ use Rattle.jo_model.specs.Heaps.{object_of}
 use Rattle.jo_model.specs.Rendered.{name_bytes}
 use Rattle.jo_print.proofs.Printed.{leaves-start, leaves-more, leaves-end, prints-both}
 use Rattle.jo_render.specs.inner.Series.{series}
-use Rattle.jo_render.proofs.InOrder.{series-cons, series-nil}
-use Rattle.jo_render.proofs.Rests.{rest-next, rest-end, within-next}
+use Rattle.jo_render.proofs.Series.{series-cons, series-nil}
+use Rattle.jo_model.proofs.Rests.{rest-next, rest-end, within-next}
 use Rattle.jo_render.proofs.print.properties.print_names.Goals as goal
 
 pub loop-name-init : goal.loop-name-init

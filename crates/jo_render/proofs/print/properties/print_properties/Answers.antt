@@ -3,7 +3,7 @@ use Rattle.std.specs.Prelude.{is_none}
 use Rattle.jo_model.specs.Heaps.{object_of}
 use Rattle.jo_model.specs.Rendered.{element_bytes, name_bytes}
 use Rattle.jo_print.proofs.Printed.{prints-as, prints-both}
-use Rattle.jo_render.proofs.InOrder.{joined-both, bare}
+use Rattle.jo_render.proofs.Series.{joined-both, bare}
 use Rattle.jo_render.proofs.print.properties.print_properties.Goals as goal
 
 pub returns : goal.returns

@@ -1,6 +1,6 @@
 use Rattle.std.proofs.Common.{refl}
 use Rattle.jo_print.proofs.Printed.{leaves-more}
-use Rattle.jo_render.proofs.Rests.{flat_map-rest}
+use Rattle.jo_model.proofs.Rests.{flat_map-rest}
 use Rattle.jo_render.specs.inner.Fragments.{escaped}
 use Rattle.jo_render.proofs.print.quoted.print_all_escaped.Goals as goal
 

@@ -8,9 +8,6 @@ use Rattle.jo_steps.proofs.Loading.{born_there, keeps_look}
 use Rattle.jo_steps.proofs.Staying.{stays_of, stays_pass, placing_stays, load_counted}
 use Rattle.jo_steps.proofs.heap.Heap.load_cell.Goals as goal
 
-pub at_cell-at-requires : goal.at_cell-at-requires
-at_cell-at-requires c = let below = c.requires.pass.number in born_there c.args.self.now.passes c.args.pass.now.view.past.seen c.args.o (omega arith) c.requires.born
-
 pub load_as-word-requires : goal.load_as-word-requires
 load_as-word-requires c =
     let P = c.args.self.now.passes in

@@ -20,9 +20,6 @@ use Rattle.jo_steps.proofs.Locking.{tries}
 use Rattle.jo_steps.proofs.heap.Heap.lock_cell.Goals.{then-found-expected, else-found-expected}
 use Rattle.jo_steps.proofs.heap.Heap.lock_cell.Goals as goal
 
-pub at_cell-at-requires : goal.at_cell-at-requires
-at_cell-at-requires c = let below = c.requires.pass.number in born_there c.args.self.now.passes c.args.pass.now.view.past.seen c.args.o (omega arith) c.requires.born
-
 pub exchange_as-found-requires-clause-place : goal.exchange_as-found-requires-clause-place
 exchange_as-found-requires-clause-place c =
     let below = c.requires.pass.number in (c.at_cell-at.ensures, born_there c.args.self.now.passes c.args.pass.now.view.past.seen c.args.o (omega arith) c.requires.born)

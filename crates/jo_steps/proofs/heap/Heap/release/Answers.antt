@@ -19,9 +19,6 @@ use Rattle.jo_steps.proofs.heap.Heap.release.Goals as goal
 few : (inside : Inside) (h : HeapView) → the_view inside ≡ h → inside.passes ≤ MOST_PASSES → h.passes ≤ MOST_PASSES
 few inside h e most = subst (λ (h : HeapView). h.passes ≤ MOST_PASSES) e most
 
-pub at_cell-at-requires : goal.at_cell-at-requires
-at_cell-at-requires c = subst (λ (h : HeldView). is_object c.args.self.now.passes h.object ≡ true) (sym c.held.view_is) c.requires.held.there
-
 pub cell_word-requires-clause-address : goal.cell_word-requires-clause-address
 cell_word-requires-clause-address c = left_address c.args.self.now.passes c.args.self.now c.args.pass.now c.args.held c.args.next c.args.event (few c.self.inside c.args.self.now c.self.view_is c.self.invariant.2) refl c.requires.pass c.requires.held c.requires.next
 

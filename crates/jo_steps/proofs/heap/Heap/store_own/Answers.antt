@@ -2,6 +2,7 @@ use Rattle.std.proofs.Common.{◌≡◌, ◌+◌, ◌<◌, ◌≤◌, ℕ, Bool,
 use mir.Val.{bool_byte}
 use Rattle.std.specs.Prelude.{nat_lt, if◌then◌else◌}
 use Rattle.jo_value.specs.declared.limits.TheConstants.{MOST_OBJECTS}
+use Rattle.jo_rule.specs.Names.{storage_at}
 use Rattle.jo_rule.specs.Views.{View}
 use Rattle.jo_steps.specs.Counting.{one_store}
 use Rattle.jo_steps.specs.Holding.{MayStoreOwn}
@@ -20,14 +21,14 @@ pub store_as-requires-clause-place : goal.store_as-requires-clause-place
 store_as-requires-clause-place c =
     let v = c.pass.inside.seat.me.0.view in
     let same : c.args.pass.now.view ≡ v = ap (λ (q : PassView). q.view) (sym c.pass.view_is) in
-    let own = stores_own c.args.self.now.passes c.pass.inside.seat.id v c.args.at c.args.word c.storage_at-storage.ensures.few c.pass.invariant.1.live (subst (λ (x : View). x.births.objects ≤ MOST_OBJECTS) same c.requires.pass.objects) (subst (λ (x : View). x.number < c.args.self.now.passes) same c.requires.pass.number) (subst (λ (x : View). MayStoreOwn c.args.self.now.passes x c.args.at c.args.word) same c.requires.own) in
+    let own = stores_own c.args.self.now.passes c.pass.inside.seat.id v c.args.at c.args.word c.layout.ensures.few c.pass.invariant.1.live (subst (λ (x : View). x.births.objects ≤ MOST_OBJECTS) same c.requires.pass.objects) (subst (λ (x : View). x.number < c.args.self.now.passes) same c.requires.pass.number) (subst (λ (x : View). MayStoreOwn c.args.self.now.passes x c.args.at c.args.word) same c.requires.own) in
     (own.number, own.is)
 
 pub store_as-requires-clause-keeps : goal.store_as-requires-clause-keeps
 store_as-requires-clause-keeps c =
     let v = c.pass.inside.seat.me.0.view in
     let same : c.args.pass.now.view ≡ v = ap (λ (q : PassView). q.view) (sym c.pass.view_is) in
-    (stores_own c.args.self.now.passes c.pass.inside.seat.id v c.args.at c.args.word c.storage_at-storage.ensures.few c.pass.invariant.1.live (subst (λ (x : View). x.births.objects ≤ MOST_OBJECTS) same c.requires.pass.objects) (subst (λ (x : View). x.number < c.args.self.now.passes) same c.requires.pass.number) (subst (λ (x : View). MayStoreOwn c.args.self.now.passes x c.args.at c.args.word) same c.requires.own)).keeps
+    (stores_own c.args.self.now.passes c.pass.inside.seat.id v c.args.at c.args.word c.layout.ensures.few c.pass.invariant.1.live (subst (λ (x : View). x.births.objects ≤ MOST_OBJECTS) same c.requires.pass.objects) (subst (λ (x : View). x.number < c.args.self.now.passes) same c.requires.pass.number) (subst (λ (x : View). MayStoreOwn c.args.self.now.passes x c.args.at c.args.word) same c.requires.own)).keeps
 
 pub invariant_of-pass : goal.invariant_of-pass
 invariant_of-pass c =
@@ -36,8 +37,9 @@ invariant_of-pass c =
     let v = c.pass.inside.seat.me.0.view in
     let P = c.args.self.now.passes in
     let i = c.args.at in
+    let at = c.storage_at-storage.ensures ∙ ap storage_at c.layout.ensures.at in
     let objects : c.pass.inside.objects + c.from.result ≡ objects_after P v.births.objects i =
-    ap (λ (n : ℕ). c.pass.inside.objects + n) (c.from.ensures ∙ bit_is (nat_lt i c.storage_at-storage.result)) ∙ (λ j. is.same_objects j + (if nat_lt i (c.storage_at-storage.ensures.at j) then 1 else 0)) in (
+    ap (λ (n : ℕ). c.pass.inside.objects + n) (c.from.ensures ∙ bit_is (nat_lt i c.storage_at-storage.result)) ∙ (λ j. is.same_objects j + (if nat_lt i (at j) then 1 else 0)) in (
       c.store_as.ensures.same.same_slots ∙ c.pass.invariant.0,
       goes_pass v c.store_as.new.seat.me.0.view c.pass.inside.number c.pass.inside.used c.pass.inside.nodes c.pass.inside.objects (used_after P v.number v.storage.used i) (objects_after P v.births.objects i) c.used_after-pass-inside.result (c.pass.inside.objects + c.from.result) c.pass.inside.counts (one_store v.counts)
           (record c.pass.inside.counts { stores = c.saturating_add-pass-inside.result }) c.pass.inside.stamps.items is told.live told.number told.told.goes (c.used_after-pass-inside.ensures ∙ (λ j. used_after P (is.same_number j) (is.same_used j) i)) objects
