@@ -174,9 +174,6 @@ MayStand-flag ins ins' l (assign o a b) h f = absurd (omega (arith, f.0))
 pub at-lower : (ins : Bool) (l l' d : ℕ) (e : Tree) (m : List Symbol) → l ≤ l' → at ins l' d e m → at ins l d e m
 at-lower ins l l' d e m h k = (MayStand-lower ins l l' e h k.0, k.1)
 
-pub at-flag : (ins ins' : Bool) (l d : ℕ) (e : Tree) (m : List Symbol) → 9 ≤ l → at ins l d e m → at ins' l d e m
-at-flag ins ins' l d e m h k = (MayStand-flag ins ins' l e h k.0, k.1)
-
 -- the terminal that stands first
 first-then : (x y : List Symbol) (r : List Terminal) (c : Terminal) → ((r : List Terminal) → peek (terms x ++ r) ≡ c) → peek (terms (x ++ y) ++ r) ≡ c
 first-then x y r c h = ap peek (terms-split x y r) ∙ h (terms y ++ r)

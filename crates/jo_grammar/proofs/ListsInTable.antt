@@ -8,7 +8,7 @@ use Rattle.jo_lex.proofs.Reading.{size-chars}
 use Rattle.jo_grammar.specs.Cuts.{Section}
 use Rattle.jo_grammar.specs.Sets.{AreRead}
 use Rattle.jo_grammar.proofs.SectionsInInput.{AreShort}
-use Rattle.jo_grammar.proofs.TokensInTable.{Extends, extends-further, extends-length, tokens-wider, IsGoodList, read-good}
+use Rattle.jo_grammar.proofs.TokensInTable.{Extends, extends-further, tokens-wider, IsGoodList, read-good}
 
 -- each of the lists is good for the table, and has at most so many tokens before its end
 abbrev pub AreGoodLists : Table → ℕ → List (List Token) → Type 0
@@ -17,7 +17,7 @@ AreGoodLists texts most (tokens ∷ lists) = IsGoodList texts most tokens × Are
 
 list-wider : (texts after : Table) (m n : ℕ) (tokens : List Token) → Extends texts after → m ≤ n → IsGoodList texts m tokens → IsGoodList after n tokens
 list-wider texts after m n tokens grown le h = record {
-  good = tokens-wider (length texts) (length after) tokens (extends-length texts after grown) h.good;
+  good = tokens-wider texts after tokens grown h.good;
   before = h.before;
   place = h.place;
   tokens_are = h.tokens_are;

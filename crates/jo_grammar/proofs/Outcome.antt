@@ -251,12 +251,6 @@ outcome-fail L S G limit ts some never = record {
   dead = λ a' m r' r'' same k s e. never a' m r' k s (ap peek e ∙ same);
 }
 
--- a terminal that opens a construct, where there may be room for it
-pub outcome-opened : {B : Type 0} (c : Terminal) (d room limit : ℕ) (r : List Terminal) (K : Language B) (S' G' : Stops B) (f : List Terminal → Reading B) → d + room ≡ limit
-    → ((b : B) × (y : List Symbol) × K b y) → (0 < room → Outcome K S' G' limit r (f r)) → Outcome (bind (one c (d + 1)) (λ _. K)) S' G' limit (c ∷ r) (and_then (open_at room (c ∷ r)) (λ _ r. f r))
-outcome-opened c d zero limit r K S' G' f sum some more = outcome-deep c (d + 1) limit r K S' G' (omega arith) some
-outcome-opened c d (suc n) limit r K S' G' f sum some more = outcome-token-then c (d + 1) limit r K S' G' (f r) (omega arith) some (more (omega arith))
-
 -- a language by the terminal that stands first
 pub outcome-branch : {A : Type 0} (branch : Terminal → Language A) (L : Language A) (S G : Stops A) (limit : ℕ) (ts : List Terminal) (c : Terminal) → peek ts ≡ c
     → ((a : A) (m : List Symbol) → branch c a m → L a m)

@@ -1,13 +1,17 @@
 -- The tokens of a script that is read: their texts are in the table after it, their numbers in range, and the table has only grown.
-use Rattle.std.proofs.Common.{◌≡◌, ℕ, zero, suc, ◌+◌, ◌-◌, ◌<◌, ◌≤◌, ◌==◌, ◌||◌, nat_le, nat_lt, Bool, true, false, List, [], ◌∷◌, ◌++◌, length, Option, Some, None, unwrap_or, if◌then◌else◌, refl, sym, ap, subst, ◌∙◌, arith, length-append, append-nil, append_assoc}
+use Rattle.std.proofs.Common.{◌≡◌, ℕ, zero, suc, ◌+◌, ◌-◌, ◌<◌, ◌≤◌, ◌==◌, ◌||◌, nat_le, nat_lt, Bool, true, false, not, cond, List, [], ◌∷◌, ◌++◌, length, Option, Some, None, unwrap_or, if◌then◌else◌, refl, sym, ap, subst, ◌∙◌, arith, length-append, append-nil, append_assoc}
 use Rattle.std.proofs.lemmas.Bool.{leb-true, ltb-true}
+use Rattle.std.proofs.lemmas.Cmp.{nat_list_eq_equiv}
 use Rattle.std.specs.List.{take_while}
-use Rattle.std.specs.Str.{encode_utf8_all}
+use Rattle.std.specs.Str.{bytes_eq, encode_utf8_all}
 use Rattle.std.specs.Prelude.{pos}
 use Rattle.jo_value.specs.declared.limits.TheConstants.{MOST_NUMBER, MOST_TEXT_BYTES}
 use Rattle.jo_value.specs.declared.value.TextId.{TextId}
 use Rattle.jo_value.specs.Texts.{Table, id_in, interned, is_digit}
 use Rattle.jo_value.proofs.Places.{place_within}
+use Rattle.jo_tree.specs.declared.keyword.Keyword.{Keyword}
+use Rattle.jo_tree.specs.Words.{keyword_text, keyword_of}
+use Rattle.jo_tree.proofs.Keywords.{text-of-keyword}
 use Rattle.jo_lex.specs.declared.punct.Punct.{Punct}
 use Rattle.jo_lex.specs.declared.token.Token.{Token}
 use Rattle.jo_lex.specs.declared.token.TokenKind.{TokenKind}
@@ -15,7 +19,7 @@ use Rattle.jo_lex.specs.declared.token.TokenKind.TheVariants as kind
 use Rattle.jo_lex.specs.declared.refusal.RefusalKind.TheVariants.{BadToken, NumberTooLarge}
 use Rattle.jo_lex.specs.Characters.{Characters, size, is_blank, is_in_line, is_word_part, is_word_start, is_spoiler, begins_with, drop_while}
 use Rattle.jo_lex.specs.Punctuators.{Row, punctuator_of}
-use Rattle.jo_lex.specs.Words.{is_reserved}
+use Rattle.jo_lex.specs.Words.{is_reserved, reserved_as}
 use Rattle.jo_lex.specs.Pieces.{Lexeme, word, text, number, punctuator, Piece, gap, lexeme, fault, after_close, closed, comment, word_piece, literal_rest, text_piece, decimal, judged, number_piece, accepted, punctuator_piece, token_piece, piece}
 use Rattle.jo_lex.specs.Tokens.{Progress, Advance, ended, refused, onward, is_one_too_many, identified, word_kind, token_kind, place_after, with_token, taken, next_of, next, going_on, reached, start, last, end_token, IsRead}
 use Rattle.jo_grammar.specs.Sound.{IsInRange}
@@ -110,74 +114,117 @@ extends-further first second third h k = (h.0 ++ k.0, k.1 ∙ ap (λ t. t ++ k.0
 pub extends-length : (texts after : Table) → Extends texts after → length texts ≤ length after
 extends-length texts after h = omega (arith, ap length h.1, length-append texts h.0)
 
--- the text is in the table with it, and the table has only grown
-interned-good : (texts : Table) (bytes : List ℕ) → (id_in texts bytes < length (interned texts bytes)) × Extends texts (interned texts bytes)
+-- the text is in the table
+abbrev pub Has : Table → List ℕ → Type 0
+Has texts bytes = id_in texts bytes < length texts
+
+-- and stays there
+has-before : (texts more : Table) (bytes : List ℕ) → Has texts bytes → Has (texts ++ more) bytes
+has-before [] more bytes h = absurd (omega (arith, h))
+has-before (first ∷ texts) more bytes h = step (bytes_eq first bytes) h (has-before texts more bytes)
+  where
+    step : (b : Bool) → cond (not b) (1 + id_in texts bytes) 0 < suc (length texts) → (Has texts bytes → Has (texts ++ more) bytes) → cond (not b) (1 + id_in (texts ++ more) bytes) 0 < suc (length (texts ++ more))
+    step true h k = omega arith
+    step false h k = omega (arith, k (omega (arith, h)))
+
+has-further : (texts after : Table) (bytes : List ℕ) → Extends texts after → Has texts bytes → Has after bytes
+has-further texts after bytes grown h = subst (λ t. Has t bytes) (sym grown.1) (has-before texts grown.0 bytes h)
+
+has-last : (texts : Table) (bytes : List ℕ) → Has (texts ++ bytes ∷ []) bytes
+has-last [] bytes = rw (nat_list_eq_equiv.refl bytes) (omega arith)
+has-last (first ∷ texts) bytes = step (bytes_eq first bytes) (has-last texts bytes)
+  where
+    step : (b : Bool) → Has (texts ++ bytes ∷ []) bytes → cond (not b) (1 + id_in (texts ++ bytes ∷ []) bytes) 0 < suc (length (texts ++ bytes ∷ []))
+    step true h = omega arith
+    step false h = omega (arith, h)
+
+-- the text is in the table with it, by its id, and the table has only grown
+record IsInterned (texts : Table) (bytes : List ℕ) (after : Table) : Type 0 where
+  within : id_in texts bytes < length after
+  has : Has after bytes
+  grown : Extends texts after
+
+interned-good : (texts : Table) (bytes : List ℕ) → IsInterned texts bytes (interned texts bytes)
 interned-good texts bytes = step (nat_lt (id_in texts bytes) (length texts)) refl
   where
-    step : (b : Bool) → nat_lt (id_in texts bytes) (length texts) ≡ b
-        → (id_in texts bytes < length (if b then texts else texts ++ bytes ∷ [])) × Extends texts (if b then texts else texts ++ bytes ∷ [])
-    step true e = (ltb-true _ _ e, extends-itself texts)
-    step false e = (omega (arith, place_within texts bytes, length-append texts (bytes ∷ [])), (bytes ∷ [], refl))
+    step : (b : Bool) → nat_lt (id_in texts bytes) (length texts) ≡ b → IsInterned texts bytes (if b then texts else texts ++ bytes ∷ [])
+    step true e = record { within = ltb-true _ _ e; has = ltb-true _ _ e; grown = extends-itself texts }
+    step false e = record {
+      within = omega (arith, place_within texts bytes, length-append texts (bytes ∷ []));
+      has = has-last texts bytes;
+      grown = (bytes ∷ [], refl);
+    }
 
 -- ---- kinds
 
--- the text of the kind is among so many, and a number is in range
-abbrev pub IsGoodKind : ℕ → TokenKind → Type 0
-IsGoodKind n (kind.Word id) = id.0 < n
-IsGoodKind n (kind.Reserved id) = id.0 < n
-IsGoodKind n (kind.Number i) = IsInRange i
-IsGoodKind n (kind.Text id) = id.0 < n
-IsGoodKind n (kind.Punct c) = Unit {0}
-IsGoodKind n kind.End = Unit {0}
+-- the text of the kind is in the table, and a number is in range
+abbrev pub IsGoodKind : Table → TokenKind → Type 0
+IsGoodKind texts (kind.Word id) = id.0 < length texts
+IsGoodKind texts (kind.Keyword w) = Has texts (keyword_text w)
+IsGoodKind texts (kind.Reserved id) = id.0 < length texts
+IsGoodKind texts (kind.Number i) = IsInRange i
+IsGoodKind texts (kind.Text id) = id.0 < length texts
+IsGoodKind texts (kind.Punct c) = Unit {0}
+IsGoodKind texts kind.End = Unit {0}
 
-kind-wider : (m n : ℕ) (k : TokenKind) → m ≤ n → IsGoodKind m k → IsGoodKind n k
-kind-wider m n (kind.Word id) le h = omega (arith, le, h)
-kind-wider m n (kind.Reserved id) le h = omega (arith, le, h)
-kind-wider m n (kind.Number i) le h = h
-kind-wider m n (kind.Text id) le h = omega (arith, le, h)
-kind-wider m n (kind.Punct c) le h = tt
-kind-wider m n kind.End le h = tt
+kind-wider : (texts after : Table) (k : TokenKind) → Extends texts after → IsGoodKind texts k → IsGoodKind after k
+kind-wider texts after (kind.Word id) grown h = omega (arith, extends-length texts after grown, h)
+kind-wider texts after (kind.Keyword w) grown h = has-further texts after (keyword_text w) grown h
+kind-wider texts after (kind.Reserved id) grown h = omega (arith, extends-length texts after grown, h)
+kind-wider texts after (kind.Number i) grown h = h
+kind-wider texts after (kind.Text id) grown h = omega (arith, extends-length texts after grown, h)
+kind-wider texts after (kind.Punct c) grown h = tt
+kind-wider texts after kind.End grown h = tt
 
 abbrev IsGoodFound : Table → Option (TokenKind × Table) → Type 0
 IsGoodFound texts None = Unit {0}
-IsGoodFound texts (Some found) = IsGoodKind (length found.1) found.0 × Extends texts found.1
+IsGoodFound texts (Some found) = IsGoodKind found.1 found.0 × Extends texts found.1
 
-identified-good : (of : TextId → TokenKind) (texts : Table) (bytes : List ℕ) → ((n : ℕ) (id : TextId) → id.0 < n → IsGoodKind n (of id)) → IsGoodFound texts (identified of texts bytes)
+identified-good : (of : TextId → TokenKind) (texts : Table) (bytes : List ℕ) → ((after : Table) (id : TextId) → Has after bytes → id.0 < length after → IsGoodKind after (of id)) → IsGoodFound texts (identified of texts bytes)
 identified-good of texts bytes good = step (is_one_too_many texts bytes)
   where
     step : (b : Bool) → IsGoodFound texts (if b then None else Some (of (record { 0 = id_in texts bytes }), interned texts bytes))
     step true = tt
-    step false = let h = interned-good texts bytes in (good (length (interned texts bytes)) (record { 0 = id_in texts bytes }) h.0, h.1)
+    step false = let h = interned-good texts bytes in (good (interned texts bytes) (record { 0 = id_in texts bytes }) h.has h.within, h.grown)
 
-word-good : (b : Bool) (n : ℕ) (id : TextId) → id.0 < n → IsGoodKind n (word_kind b id)
-word-good true n id h = h
-word-good false n id h = h
+-- the keyword that a reserved word is has its text
+keyword-text : (bytes : List ℕ) (w : Keyword) → reserved_as bytes ≡ Some (Some w) → keyword_text w ≡ bytes
+keyword-text bytes w e = step (is_reserved bytes) e
+  where
+    step : (b : Bool) → (if b then Some (keyword_of bytes) else None) ≡ Some (Some w) → keyword_text w ≡ bytes
+    step true e = text-of-keyword bytes w cc
+    step false e = cc
+
+word-good : (bytes : List ℕ) (found : Option (Option Keyword)) → reserved_as bytes ≡ found → (after : Table) (id : TextId) → Has after bytes → id.0 < length after → IsGoodKind after (word_kind found id)
+word-good bytes (Some (Some w)) e after id has within = subst (Has after) (sym (keyword-text bytes w e)) has
+word-good bytes (Some None) e after id has within = within
+word-good bytes None e after id has within = within
 
 kind-good : (texts : Table) (l : Lexeme) → IsRanged l → IsGoodFound texts (token_kind texts l)
-kind-good texts (word bytes) h = identified-good (word_kind (is_reserved bytes)) texts bytes (word-good (is_reserved bytes))
+kind-good texts (word bytes) h = identified-good (word_kind (reserved_as bytes)) texts bytes (word-good bytes (reserved_as bytes) refl)
 kind-good texts (number i) h = (h, extends-itself texts)
-kind-good texts (text bytes) h = identified-good kind.Text texts bytes (λ n id h. h)
+kind-good texts (text bytes) h = identified-good kind.Text texts bytes (λ after id has within. within)
 kind-good texts (punctuator c) h = (tt, extends-itself texts)
 
 -- ---- tokens
 
-abbrev pub AreGoodTokens : ℕ → List Token → Type 0
-AreGoodTokens n [] = Unit {0}
-AreGoodTokens n (token ∷ tokens) = IsGoodKind n token.kind × AreGoodTokens n tokens
+abbrev pub AreGoodTokens : Table → List Token → Type 0
+AreGoodTokens texts [] = Unit {0}
+AreGoodTokens texts (token ∷ tokens) = IsGoodKind texts token.kind × AreGoodTokens texts tokens
 
-pub tokens-wider : (m n : ℕ) (tokens : List Token) → m ≤ n → AreGoodTokens m tokens → AreGoodTokens n tokens
-tokens-wider m n [] le h = tt
-tokens-wider m n (token ∷ tokens) le h = (kind-wider m n token.kind le h.0, tokens-wider m n tokens le h.1)
+pub tokens-wider : (texts after : Table) (tokens : List Token) → Extends texts after → AreGoodTokens texts tokens → AreGoodTokens after tokens
+tokens-wider texts after [] grown h = tt
+tokens-wider texts after (token ∷ tokens) grown h = (kind-wider texts after token.kind grown h.0, tokens-wider texts after tokens grown h.1)
 
-tokens-push : (n : ℕ) (tokens : List Token) (token : Token) → AreGoodTokens n tokens → IsGoodKind n token.kind → AreGoodTokens n (tokens ++ token ∷ [])
-tokens-push n [] token h k = (k, tt)
-tokens-push n (first ∷ tokens) token h k = (h.0, tokens-push n tokens token h.1 k)
+tokens-push : (texts : Table) (tokens : List Token) (token : Token) → AreGoodTokens texts tokens → IsGoodKind texts token.kind → AreGoodTokens texts (tokens ++ token ∷ [])
+tokens-push texts [] token h k = (k, tt)
+tokens-push texts (first ∷ tokens) token h k = (h.0, tokens-push texts tokens token h.1 k)
 
 -- ---- from piece to piece
 
 -- from a table at most so many tokens were read, which are good for the table now
 record IsGoodState (texts : Table) (most : ℕ) (s : Progress) : Type 0 where
-  good : AreGoodTokens (length s.table) s.tokens
+  good : AreGoodTokens s.table s.tokens
   grown : Extends texts s.table
   few : length s.tokens ≤ most
 
@@ -190,7 +237,7 @@ token-good : (texts : Table) (most : ℕ) (s : Progress) (rest : Characters) (fo
 token-good texts most s rest None h k = tt
 token-good texts most s rest (Some found) h k =
     let token : Token = record { kind = found.0; start = s.place; end = place_after s rest } in record {
-      good = tokens-push (length found.1) s.tokens token (tokens-wider (length s.table) (length found.1) s.tokens (extends-length s.table found.1 h.1) k.good) h.0;
+      good = tokens-push found.1 s.tokens token (tokens-wider s.table found.1 s.tokens h.1 k.good) h.0;
       grown = extends-further texts s.table found.1 k.grown h.1;
       few = omega (arith, k.few, length-append s.tokens (token ∷ []));
     }
@@ -222,7 +269,7 @@ reached-good texts (suc n) most s k = going-good texts n most s (next s) (next-g
 
 -- the tokens are good for the table, and so many at most stand before their end
 pub record IsGoodList (texts : Table) (most : ℕ) (tokens : List Token) : Type 0 where
-  pub good : AreGoodTokens (length texts) tokens
+  pub good : AreGoodTokens texts tokens
   pub before : List Token
   pub place : ℕ
   pub tokens_are : tokens ≡ before ++ end_token place ∷ []
@@ -234,7 +281,7 @@ read-good base texts cs tokens after h =
     let begins : IsGoodState texts 0 (start base texts cs) = record { good = tt; grown = extends-itself texts; few = omega arith } in
     let k : IsGoodState texts (size cs + 0) s = reached-good texts (size cs) 0 (start base texts cs) begins in (
       record {
-        good = subst (λ ts. AreGoodTokens (length after) ts) (sym h.tokens_are) (tokens-push (length after) s.tokens (end_token s.place) (subst (λ t. AreGoodTokens (length t) s.tokens) (sym h.table_is) k.good) tt);
+        good = subst (AreGoodTokens after) (sym h.tokens_are) (tokens-push after s.tokens (end_token s.place) (subst (λ t. AreGoodTokens t s.tokens) (sym h.table_is) k.good) tt);
         before = s.tokens;
         place = s.place;
         tokens_are = h.tokens_are;

@@ -1,5 +1,5 @@
 -- The terminals of a script's tokens.
-use Rattle.std.specs.Prelude.{ℕ, Bool, true, false, not, List, [], map, Option, None, Some, codes}
+use Rattle.std.specs.Prelude.{ℕ, Bool, true, false, not, List, map, codes}
 use Rattle.std.specs.List.{take_while}
 use Rattle.std.specs.Str.{bytes_eq}
 use Rattle.jo_value.specs.declared.value.TextId.{TextId}
@@ -7,25 +7,17 @@ use Rattle.jo_value.specs.Texts.{Table, text_in}
 use Rattle.jo_lex.specs.declared.token.Token.{Token}
 use Rattle.jo_lex.specs.declared.token.TokenKind.{TokenKind}
 use Rattle.jo_lex.specs.declared.token.TokenKind.TheVariants as kind
-use Rattle.jo_tree.specs.declared.keyword.Keyword.{Keyword}
 use Rattle.jo_grammar.specs.declared.terminal.Terminal.{Terminal}
 use Rattle.jo_grammar.specs.declared.terminal.Terminal.TheVariants as t
-use Rattle.jo_tree.specs.Words.{keyword_of}
 
 abbrev pub is_proto : Table → TextId → Bool
 is_proto table id = bytes_eq (text_in table id.0) (codes "__proto__")
 
-abbrev pub keyword_or_reserved : TextId → Option Keyword → Terminal
-keyword_or_reserved id None = t.Reserved id
-keyword_or_reserved id (Some w) = t.Keyword w
-
-abbrev pub reserved : Table → TextId → Terminal
-reserved table id = keyword_or_reserved id (keyword_of (text_in table id.0))
-
 -- a token of the kind at the place
 abbrev pub kind_terminal : Table → ℕ → TokenKind → Terminal
 kind_terminal table place (kind.Word id) = t.Ident record { text = id; place = place; is_proto = is_proto table id }
-kind_terminal table place (kind.Reserved id) = reserved table id
+kind_terminal table place (kind.Keyword w) = t.Keyword w
+kind_terminal table place (kind.Reserved id) = t.Reserved id
 kind_terminal table place (kind.Number n) = t.Number n
 kind_terminal table place (kind.Text id) = t.Text record { text = id; is_proto = is_proto table id }
 kind_terminal table place (kind.Punct c) = t.Punct c

@@ -1,5 +1,5 @@
 -- Number and text literals.
-use Rattle.std.proofs.Common.{◌≡◌, ℕ, ◌+◌, ◌-◌, ◌*◌, ◌<◌, ◌≤◌, ◌≢◌, length, min, List, [], ◌∷◌, ◌++◌, Option, Some, None, refl, sym, ap, ◌∙◌, arith, append_assoc}
+use Rattle.std.proofs.Common.{◌≡◌, ℕ, ◌+◌, ◌-◌, ◌*◌, ◌<◌, ◌≤◌, ◌≢◌, length, min, List, [], ◌∷◌, sym, ap, ◌∙◌, arith}
 use Rattle.std.proofs.lemmas.Bool.{le-leb, lt-leb, eq-eqb, ne_eqb}
 use Rattle.std.specs.List.{take_while}
 use Rattle.std.specs.Str.{encode_utf8_all}
@@ -7,7 +7,7 @@ use Rattle.jo_value.specs.declared.limits.TheConstants.{MOST_TEXT_BYTES}
 use Rattle.jo_lex.specs.declared.refusal.RefusalKind.TheVariants.{BadToken}
 use Rattle.jo_lex.specs.Characters.{Characters, is_word_part, drop_while}
 use Rattle.jo_value.specs.Texts.{is_digit}
-use Rattle.jo_lex.specs.Pieces.{Lexeme, word, lexeme, fault, decimal, with_bytes, limited, word_piece, number_piece, judged}
+use Rattle.jo_lex.specs.Pieces.{Lexeme, word, lexeme, fault, decimal, limited, word_piece, number_piece, judged}
 
 digit_capped : (cap m n k : ℕ) → min m cap ≡ min n cap → min (m * 10 + k) cap ≡ min (n * 10 + k) cap
 digit_capped cap m n k e = omega arith
@@ -16,14 +16,6 @@ digit_capped cap m n k e = omega arith
 pub decimal_capped : (cap m n : ℕ) (digits : Characters) → min m cap ≡ min n cap → min (decimal m digits) cap ≡ min (decimal n digits) cap
 decimal_capped cap m n [] e = e
 decimal_capped cap m n (d ∷ ds) e = decimal_capped cap (m * 10 + (d - 48)) (n * 10 + (d - 48)) ds (digit_capped cap m n (d - 48) e)
-
-pub with_bytes-append : (a b : List ℕ) (found : Option (List ℕ × Characters)) → with_bytes (a ++ b) found ≡ with_bytes a (with_bytes b found)
-with_bytes-append a b None = refl
-with_bytes-append a b (Some p) = ap (λ t. Some (t, p.1)) (append_assoc a b p.0)
-
-pub with_bytes-nil : (found : Option (List ℕ × Characters)) → with_bytes [] found ≡ found
-with_bytes-nil None = refl
-with_bytes-nil (Some p) = refl
 
 -- ---- limits
 

@@ -87,9 +87,6 @@ longest-short n (p ∷ ps) cs e =
 pub longest-first : (n : ℕ) (p : Row) (ps : List Row) (cs : List ℕ) → is_falling n (p ∷ ps) ≡ true → fits p.0 cs ≡ true → longest (p ∷ ps) cs ≡ Some p
 longest-first n p ps cs e f = rw f (ap Some (longer-first p (longest ps cs) (longest-short (length p.0) ps cs (falling_parts n p ps e).3)))
 
-pub longest-later : (p : Row) (ps : List Row) (cs : List ℕ) → fits p.0 cs ≡ false → longest (p ∷ ps) cs ≡ longest ps cs
-longest-later p ps cs f = rw f
-
 pub entries_head : (rows : List (Bor (List ℕ) × Option Punct)) (d : Bor (List ℕ) × Option Punct) → 1 ≤ length rows
     → entries_of rows ≡ ((slice_index_or rows 0 d).0.now, (slice_index_or rows 0 d).1) ∷ entries_of (drop 1 rows)
 entries_head [] d h = absurd (omega arith)

@@ -1,8 +1,9 @@
 -- The tokens of a script with their places, the table of texts then, or the first fault.
-use Rattle.std.specs.Prelude.{◌≡◌, ℕ, zero, suc, ◌+◌, ◌-◌, ◌&&◌, ◌==◌, Bool, true, false, List, [], ◌∷◌, ◌++◌, length, Option, Some, None, if◌then◌else◌}
+use Rattle.std.specs.Prelude.{◌≡◌, ℕ, zero, suc, ◌+◌, ◌-◌, ◌&&◌, ◌==◌, Bool, List, [], ◌∷◌, ◌++◌, length, Option, Some, None, if◌then◌else◌}
 use Rattle.jo_value.specs.Texts.{Table, id_in, interned}
 use Rattle.jo_value.specs.declared.value.TextId.{TextId}
 use Rattle.jo_value.specs.declared.limits.TheConstants.{MOST_TEXTS}
+use Rattle.jo_tree.specs.declared.keyword.Keyword.{Keyword}
 use Rattle.jo_lex.specs.declared.token.Token.{Token}
 use Rattle.jo_lex.specs.declared.token.TokenKind.{TokenKind}
 use Rattle.jo_lex.specs.declared.token.TokenKind.TheVariants as kind
@@ -12,7 +13,7 @@ use Rattle.jo_lex.specs.declared.refusal.RefusalKind.TheVariants.{TooManyTexts}
 use Rattle.jo_lex.specs.declared.refusal.ParseFault.{ParseFault}
 use Rattle.jo_lex.specs.declared.refusal.ParseFault.TheVariants.{Memory, Refused}
 use Rattle.jo_lex.specs.Characters.{Characters, size}
-use Rattle.jo_lex.specs.Words.{is_reserved}
+use Rattle.jo_lex.specs.Words.{reserved_as}
 use Rattle.jo_lex.specs.Pieces.{Lexeme, word, number, text, punctuator, Piece, gap, lexeme, fault, piece}
 
 -- ---- the kind of a token, and the table with its text
@@ -25,14 +26,15 @@ is_one_too_many table bytes = id_in table bytes == length table && length table 
 abbrev pub identified : (TextId → TokenKind) → Table → List ℕ → Option (TokenKind × Table)
 identified of table bytes = if is_one_too_many table bytes then None else Some (of (record { 0 = id_in table bytes }), interned table bytes)
 
--- reserved or not
-abbrev pub word_kind : Bool → TextId → TokenKind
-word_kind true = kind.Reserved
-word_kind false = kind.Word
+-- a keyword, another reserved word, or none
+abbrev pub word_kind : Option (Option Keyword) → TextId → TokenKind
+word_kind (Some (Some keyword)) id = kind.Keyword keyword
+word_kind (Some None) id = kind.Reserved id
+word_kind None id = kind.Word id
 
 -- the kind of a token, and the table with its text; none where that would be one too many
 abbrev pub token_kind : Table → Lexeme → Option (TokenKind × Table)
-token_kind table (word bytes) = identified (word_kind (is_reserved bytes)) table bytes
+token_kind table (word bytes) = identified (word_kind (reserved_as bytes)) table bytes
 token_kind table (number n) = Some (kind.Number n, table)
 token_kind table (text bytes) = identified kind.Text table bytes
 token_kind table (punctuator p) = Some (kind.Punct p, table)

@@ -1,8 +1,10 @@
 -- The reserved words.
 use Prim.Native.String.{String}
-use Rattle.std.specs.Prelude.{ℕ, Bool, List, [], ◌∷◌, ◌++◌, map, codes}
+use Rattle.std.specs.Prelude.{ℕ, Bool, List, [], ◌∷◌, ◌++◌, map, codes, Option, Some, None, if◌then◌else◌}
 use Rattle.std.specs.List.{list_any}
 use Rattle.std.specs.Str.{bytes_eq}
+use Rattle.jo_tree.specs.declared.keyword.Keyword.{Keyword}
+use Rattle.jo_tree.specs.Words.{keyword_of}
 
 -- those of ECMA-262 (Keywords and Reserved Words, ReservedWord)
 abbrev pub reserved_anywhere : List String
@@ -28,3 +30,7 @@ reserved_words = map codes (reserved_anywhere ++ reserved_in_strict_code ++ rese
 -- the word, by its bytes, is one of them
 unfoldable pub is_reserved : List ℕ → Bool
 is_reserved word = list_any (λ reserved. bytes_eq reserved word) reserved_words
+
+-- of a reserved word its keyword, where the grammar names it; none of another word
+abbrev pub reserved_as : List ℕ → Option (Option Keyword)
+reserved_as word = if is_reserved word then Some (keyword_of word) else None

@@ -7,18 +7,19 @@ ghost use Rattle.jo_lex.specs.inner.Steps.{at, fault_at, AddsToken, IsTooMany, F
 
 use crate::character::first_of;
 use crate::piece::{Lexeme, Piece, piece_at};
-use crate::reserved::is_reserved;
+use crate::reserved::reserved;
 use crate::{ParseFault, Refusal, RefusalKind, Token, TokenKind};
+use jo_tree::Keyword;
 use jo_value::{InternFault, TextId, Texts};
 use std::alloc::Global;
 
-fn word_kind(is_reserved: bool, id: TextId) -> TokenKind
-    ensures { result ≡ spec.word_kind is_reserved id }
+fn word_kind(reserved: Option<Option<Keyword>>, id: TextId) -> TokenKind
+    ensures { result ≡ spec.word_kind reserved id }
 {
-    if is_reserved {
-        TokenKind::Reserved(id)
-    } else {
-        TokenKind::Word(id)
+    match reserved {
+        Some(Some(keyword)) => TokenKind::Keyword(keyword),
+        Some(None) => TokenKind::Reserved(id),
+        None => TokenKind::Word(id),
     }
 }
 
@@ -33,7 +34,7 @@ fn token_kind(lexeme: Lexeme<'_>, texts: &mut Texts) -> Result<TokenKind, Intern
     match lexeme {
         Lexeme::Word(word) => {
             let id = texts.intern(word)?;
-            Ok(word_kind(is_reserved(word), id))
+            Ok(word_kind(reserved(word), id))
         }
         Lexeme::Number(n) => Ok(TokenKind::Number(n)),
         Lexeme::Text(string) => {

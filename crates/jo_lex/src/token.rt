@@ -1,14 +1,17 @@
 // The tokens of a script.
 
 use crate::Punct;
+use jo_tree::Keyword;
 use jo_value::TextId;
 
-/// What a token is. Words and text literals are named by their ids in the table of texts.
+/// What a token is. Words and text literals are named by their ids in the table of texts, a keyword by itself.
 #[derive(Clone, Copy, PartialEq, Eq)]
 pub enum TokenKind {
     /// A word that is not reserved.
     Word(TextId),
-    /// A reserved word.
+    /// A reserved word that the grammar names.
+    Keyword(Keyword),
+    /// Any other reserved word.
     Reserved(TextId),
     /// A number literal.
     Number(i64),

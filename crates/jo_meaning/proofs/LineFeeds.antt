@@ -17,7 +17,7 @@ use Rattle.jo_lex.specs.declared.token.TokenKind.TheVariants as kind
 use Rattle.jo_lex.specs.declared.refusal.RefusalKind.TheVariants.{BadToken, NumberTooLarge}
 use Rattle.jo_lex.specs.Characters.{Characters, is_blank, is_in_line, is_word_part, is_word_start, is_spoiler, begins_with, drop_while}
 use Rattle.jo_lex.specs.Punctuators.{Row, punctuator_of}
-use Rattle.jo_lex.specs.Words.{is_reserved}
+use Rattle.jo_lex.specs.Words.{reserved_as}
 use Rattle.jo_lex.specs.Pieces.{Lexeme, word, text, number, punctuator, Piece, gap, lexeme, fault, after_close, closed, comment, word_piece, is_escapable, with_bytes, literal_rest, text_piece, decimal, judged, number_piece, accepted, punctuator_piece, token_piece, piece}
 use Rattle.jo_lex.specs.Tokens.{Progress, Advance, ended, refused, onward, is_one_too_many, identified, word_kind, token_kind, with_token, taken, next_of, next, going_on, reached, start, IsRead}
 use Rattle.jo_tree.specs.Trees.{Items}
@@ -195,7 +195,7 @@ identified-plain of texts bytes h k = step (is_one_too_many texts bytes)
     step false = interned-plain texts bytes h k
 
 kind-plain : (texts : Table) (l : Lexeme) → AreOneLine texts → IsPlainLexeme l → IsPlainFound (token_kind texts l)
-kind-plain texts (word bytes) h k = identified-plain (word_kind (is_reserved bytes)) texts bytes h k
+kind-plain texts (word bytes) h k = identified-plain (word_kind (reserved_as bytes)) texts bytes h k
 kind-plain texts (number i) h k = h
 kind-plain texts (text bytes) h k = identified-plain kind.Text texts bytes h k
 kind-plain texts (punctuator c) h k = h

@@ -17,9 +17,6 @@ alike s = ((λ name. refl), (λ name. refl))
 pub alike_then : (s t u : Scope) → IsAlike s t → IsAlike t u → IsAlike s u
 alike_then s t u a b = ((λ name. a.0 name ∙ b.0 name), (λ name. a.1 name ∙ b.1 name))
 
-pub alike_turned : (s t : Scope) → IsAlike s t → IsAlike t s
-alike_turned s t a = ((λ name. sym (a.0 name)), (λ name. sym (a.1 name)))
-
 pub binds-inside : (s t : Scope) (ss ts : List Scope) → IsAlike s t → BindsSame ss ts → BindsSame (s ∷ ss) (t ∷ ts)
 binds-inside s t ss ts a same name =
     ap (λ b. if b then is_among s.ended name else is_bound ss name) (a.0 name)

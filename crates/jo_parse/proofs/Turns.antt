@@ -32,9 +32,6 @@ pub record Reads (start : Table) (scripts : List Section) (here : Table) (rest :
   pub read : (lists : List (List Token)) (end : Table) → AreRead here rest lists end → AreRead start scripts (done ++ lists) end
   pub unread : (refusal : Refusal) → IsFirstUnread here rest refusal → IsFirstUnread start scripts refusal
 
-pub none_read : (start : Table) (scripts : List Section) → AreWithin MOST_INPUT scripts → Reads start scripts start scripts []
-none_read start scripts w = record { within = w; read = λ lists end h. h; unread = λ refusal h. h }
-
 module _ (start : Table) (scripts : List Section) (here : Table) (section : Section) (rest : List Section) (done : List (List Token)) where
   pub one_read : Reads start scripts here (section ∷ rest) done → (tokens : List Token) (after : Table) → IsRead (begun here section) tokens after
       → Reads start scripts after rest (done ++ tokens ∷ [])
@@ -74,9 +71,6 @@ module _ {Z : Type 0} (start : Table) (scripts : List Section) (here : Table) (s
 pub record Spells (texts : Table) (lists : List (List Token)) (rest : List (List Token)) (done : List Items) : Type 0 where
   pub spelled : (scripts : List Items) → AreScripts texts rest scripts → AreScripts texts lists (done ++ scripts)
   pub misspelled : (refusal : Refusal) → IsFirstMisspelled texts rest refusal → IsFirstMisspelled texts lists refusal
-
-pub none_spelled : (texts : Table) (lists : List (List Token)) → Spells texts lists lists []
-none_spelled texts lists = record { spelled = λ scripts h. h; misspelled = λ refusal h. h }
 
 module _ (texts : Table) (lists : List (List Token)) (tokens : List Token) (rest : List (List Token)) (done : List Items) where
   pub one_spelled : Spells texts lists (tokens ∷ rest) done → (script : Items) → IsAccepted IsScript MOST_OPEN (terminals_of texts tokens) script

@@ -4,7 +4,7 @@ ghost use Rattle.jo_grammar.specs.Terminals as spec;
 
 use jo_grammar::Terminal;
 use jo_lex::{Token, TokenKind};
-use jo_tree::{Ident, Keyword, Literal};
+use jo_tree::{Ident, Literal};
 use jo_value::{TextId, Texts};
 use std::alloc::{AllocError, Global};
 
@@ -17,15 +17,6 @@ fn is_proto(texts: &Texts, id: TextId) -> bool
     texts.bytes(id) == PROTO.as_bytes()
 }
 
-fn reserved(texts: &Texts, id: TextId) -> Terminal
-    ensures { result ≡ spec.reserved texts.now id }
-{
-    match Keyword::of(texts.bytes(id)) {
-        Some(keyword) => Terminal::Keyword(keyword),
-        None => Terminal::Reserved(id),
-    }
-}
-
 fn terminal(texts: &Texts, token: &Token) -> Terminal
     ensures { result ≡ spec.terminal_of texts.now token.now }
 {
@@ -35,7 +26,8 @@ fn terminal(texts: &Texts, token: &Token) -> Terminal
             place: token.start,
             is_proto: is_proto(texts, id),
         }),
-        TokenKind::Reserved(id) => reserved(texts, id),
+        TokenKind::Keyword(keyword) => Terminal::Keyword(keyword),
+        TokenKind::Reserved(id) => Terminal::Reserved(id),
         TokenKind::Number(number) => Terminal::Number(number),
         TokenKind::Text(id) => Terminal::Text(Literal {
             text: id,

@@ -2,6 +2,7 @@
 ghost use Rattle.std.specs.Prelude.{◌+◌, ◌≤◌, length};
 
 use jo_lex::{ParseFault, Punct, Refusal, RefusalKind, TokenKind, tokens};
+use jo_tree::Keyword;
 use jo_value::{TextId, Texts};
 use std::alloc::{AllocError, Global};
 use std::process::Abort;
@@ -43,6 +44,8 @@ fn full(alloc: Global) -> Result<Texts, AllocError> {
 
 const WORD: TokenKind = TokenKind::Word(TextId(0));
 
+const KEYWORD: TokenKind = TokenKind::Keyword(Keyword::Cas);
+
 const RESERVED: TokenKind = TokenKind::Reserved(TextId(0));
 
 const TEXT: TokenKind = TokenKind::Text(TextId(0));
@@ -53,11 +56,12 @@ const NOT_SAME: TokenKind = TokenKind::Punct(Punct::NotSame);
 
 const PLUS: TokenKind = TokenKind::Punct(Punct::Plus);
 
-const STARTS: [(&str, u32, Start); 20] = [
+const STARTS: [(&str, u32, Start); 21] = [
     ("x", 0, Start::Token(WORD, 0, 1)),
     ("\u{feff} $_9\u{301}+", 0, Start::Token(WORD, 4, 9)),
     ("cases", 7, Start::Token(WORD, 7, 12)),
-    ("cas(", 0, Start::Token(RESERVED, 0, 3)),
+    ("cas(", 0, Start::Token(KEYWORD, 0, 3)),
+    ("class(", 0, Start::Token(RESERVED, 0, 5)),
     ("//'\n\t70;", 0, Start::Token(TokenKind::Number(70), 5, 7)),
     ("/**/0", 0, Start::Token(TokenKind::Number(0), 4, 5)),
     ("'a\\'\"\\\\'", 0, Start::Token(TEXT, 0, 8)),

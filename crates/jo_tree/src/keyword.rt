@@ -1,12 +1,9 @@
 // The reserved words that the grammar names.
 ghost use Rattle.std.specs.Prelude.{◌≡◌};
-ghost use Rattle.std.specs.List.{find};
-ghost use Rattle.std.specs.Option.{option_copied};
-ghost use Rattle.std.specs.Str.{bytes_eq};
 ghost use Rattle.jo_tree.specs.Words.{keyword_text};
 
 /// A reserved word that has a meaning of its own in the grammar.
-#[derive(Clone, Copy)]
+#[derive(Clone, Copy, PartialEq, Eq)]
 pub enum Keyword {
     Break,
     Cas,
@@ -48,25 +45,7 @@ pub const KEYWORDS: [Keyword; 17] = [
     Keyword::While,
 ];
 
-fn find_in<'a>(keywords: &'a [Keyword], word: &[u8]) -> Option<&'a Keyword>
-    ensures { option_copied result ≡ find (λ keyword. bytes_eq (keyword_text keyword) word.now) keywords.now }
-{
-    keywords
-        .iter()
-        .find(|keyword| keyword.text().as_bytes() == word)
-}
-
 impl Keyword {
-    ghost use Rattle.jo_tree.specs.Words.{keyword_of};
-
-    /// The keyword whose text these bytes are.
-    #[tactic(auto, unfolding(crate::specs::Words::keyword_of))]
-    pub fn of(word: &[u8]) -> Option<Keyword>
-        ensures { result ≡ keyword_of word.now }
-    {
-        find_in(&KEYWORDS, word).copied()
-    }
-
     /// The word itself.
     pub fn text(self) -> &'static str
         ensures { result.now ≡ keyword_text self }

@@ -1,4 +1,5 @@
 pub mod Places
+mod Entries
 mod Numbers
 pub mod Numerals
 pub mod BitPlaces

@@ -1,8 +1,8 @@
 // Which keys numbers and texts are.
 ghost use Rattle.std.specs.Prelude.{◌≡◌, IsTrue, true};
-ghost use Rattle.jo_value.specs.Keys.{is_unpadded, is_numeral, array_index, key_at, key_of_int};
+ghost use Rattle.jo_value.specs.Keys.{is_unpadded, is_numeral, array_index, key_at, key_by, key_of_int};
 
-use crate::{Key, MOST_ARRAY_INDEX, MOST_INDEX};
+use crate::{Key, MOST_ARRAY_INDEX, MOST_INDEX, NameId};
 
 /// What is no key: a number below 0 or above `MOST_INDEX`, an array index above it, an id that a table lacks.
 #[derive(Clone, Copy, Debug, PartialEq, Eq)]
@@ -19,8 +19,18 @@ impl Key {
         Ok(Key::Index(i as u16))
     }
 
-    // The same for an array index.
-    pub(crate) fn at(index: u32) -> Result<Key, KeyOutside>
+    // The key of a text with this id: an index for an array index, else the name with that id.
+    pub(crate) fn of_text(id: u16, text: &str) -> Result<Key, KeyOutside>
+        ensures { result ≡ key_by id (array_index text.now) }
+    {
+        match array_index_of(text) {
+            Some(index) => Key::at(index),
+            None => Ok(Key::Name(NameId(id))),
+        }
+    }
+
+    // The same as `of_int` for an array index.
+    fn at(index: u32) -> Result<Key, KeyOutside>
         ensures { result ≡ key_at index }
     {
         if index > MOST_INDEX {
@@ -30,8 +40,8 @@ impl Key {
     }
 }
 
-/// The array index that a text is, by ECMA-262: a canonical numeric text up to `MOST_ARRAY_INDEX`.
-pub(crate) fn array_index_of(text: &str) -> Option<u32>
+// The array index that a text is, by ECMA-262: a canonical numeric text up to `MOST_ARRAY_INDEX`.
+fn array_index_of(text: &str) -> Option<u32>
     ensures { result ≡ array_index text.now }
 {
     if !is_numeral(text.as_bytes()) {

@@ -1,9 +1,8 @@
 // The table of the texts of a set of scripts.
 ghost use Rattle.std.specs.Prelude.{◌≡◌, ◌<◌, ◌↔◌, [], ◌∷◌, ◌++◌, length, slice_get, Some, None, IfOk, IfSome, IfNone, OnOk, OnErr, IsTrue, IsErrOf};
 
-use crate::key::array_index_of;
-use crate::{Key, KeyOutside, MOST_TEXTS, NameId, TextId};
-use indexmap::IndexSet;
+use crate::{Key, KeyOutside, MOST_TEXTS, TextId};
+use indexmap::IndexMap;
 use std::alloc::{AllocError, Global};
 use std::marker::Model;
 use thiserror::Error;
@@ -31,22 +30,23 @@ impl From<AllocError> for InternFault {
 
 /// A table of texts. A text's id is its place in the table, from 0, and interning gives equal texts one id.
 ///
-/// Contracts see the list of the texts, each as its bytes.
+/// Contracts see the list of the texts, each as its bytes. Beside each text stands the key that it is.
 #[derive(Drop)]
 pub struct Texts {
     alloc: Global,
-    texts: IndexSet<String>,
+    texts: IndexMap<String, Result<Key, KeyOutside>>,
 }
 
 impl Model for Texts {
-    ghost use Rattle.std.specs.Prelude.{List, ℕ, length, map, ◌≤◌, string_bytes};
-    ghost use Rattle.jo_value.specs.declared.limits.TheConstants.{MOST_TEXTS};
+    ghost use Rattle.std.specs.Prelude.{List, ℕ, map, string_bytes};
+    ghost use Rattle.indexmap.specs.IndexMap.{keys, values};
+    ghost use Rattle.jo_value.specs.inner.Entries.{IsTable};
 
     ghost Value = { List (List ℕ) };
 
-    ghost view = { λ t. map (λ text. string_bytes text) t.texts.keys };
+    ghost view = { λ t. map (λ text. string_bytes text) (keys t.texts) };
 
-    ghost invariant = { λ t. length t.texts.keys ≤ MOST_TEXTS };
+    ghost invariant = { λ t. IsTable (map (λ text. string_bytes text) (keys t.texts)) (values t.texts) };
 }
 
 impl Texts {
@@ -59,7 +59,7 @@ impl Texts {
     {
         Texts {
             alloc,
-            texts: IndexSet::new(alloc),
+            texts: IndexMap::new(alloc),
         }
     }
 
@@ -112,8 +112,9 @@ impl Texts {
         ensures ok { OnOk result (self.new ≡ self.old ++ text.now ∷ []) }
         ensures err { OnErr result (self.new ≡ self.old) }
     {
+        let key = Key::of_text(self.len(), text);
         let copy = String::from_str(self.alloc, text)?;
-        self.texts.insert(copy)?;
+        self.texts.insert(copy, key)?;
         Ok(())
     }
 
@@ -132,8 +133,8 @@ impl Texts {
         ensures some { IfSome result (λ text. slice_get self.now id.0 ≡ Some text.now) }
         ensures none { IfNone result (slice_get self.now id.0 ≡ None) }
     {
-        match self.texts.as_slice().get(usize::from(id.0)) {
-            Some(text) => Some(text.as_str()),
+        match self.texts.get_index(usize::from(id.0)) {
+            Some((text, _)) => Some(text.as_str()),
             None => None,
         }
     }
@@ -143,10 +144,9 @@ impl Texts {
     pub fn key(&self, id: TextId) -> Result<Key, KeyOutside>
         ensures { result ≡ key_of_id self.now id.0 }
     {
-        let text = self.text(id).ok_or(KeyOutside)?;
-        match array_index_of(text) {
-            Some(index) => Key::at(index),
-            None => Ok(Key::Name(NameId(id.0))),
+        match self.texts.get_index(usize::from(id.0)) {
+            Some((_, key)) => *key,
+            None => Err(KeyOutside),
         }
     }
 

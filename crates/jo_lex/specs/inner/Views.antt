@@ -4,6 +4,8 @@ use Rattle.std.specs.Borrow.{Bor}
 use Rattle.std.specs.List.{list_all}
 use Rattle.std.specs.String.{string_bytes}
 use Rattle.std.specs.Str.{chars}
+use Rattle.jo_tree.specs.declared.keyword.Keyword.{Keyword}
+use Rattle.jo_tree.specs.Words.{keyword_of}
 use Rattle.jo_lex.specs.declared.literal.Stroke.{Stroke}
 use Rattle.jo_lex.specs.declared.literal.Stroke.TheVariants.{Close, Escape, Take, Refuse}
 use Rattle.jo_lex.specs.declared.punct.Punct.{Punct}
@@ -14,6 +16,7 @@ use Rattle.jo_lex.specs.declared.piece.Piece.TheVariants as found
 use Rattle.jo_lex.specs.Pieces as spec
 use Rattle.jo_lex.specs.Pieces.{is_escapable}
 use Rattle.jo_lex.specs.Punctuators.{Row, table}
+use Rattle.jo_lex.specs.Words.{reserved_words}
 
 -- a lexeme of the code
 abbrev pub lexeme_of : Lexeme → spec.Lexeme
@@ -34,9 +37,17 @@ IsWithin n (found.Gap rest) = length rest.now ≤ n
 IsWithin n (found.Token l rest) = length rest.now ≤ n
 IsWithin n (found.Fault kind) = Unit {0}
 
--- the words of a table of the code
-abbrev pub words_of : List (Bor (List ℕ)) → List (List ℕ)
-words_of words = map (λ word. word.now) words
+-- a reserved word, and its keyword where the grammar names it
+abbrev pub ReservedRow : Type 0
+ReservedRow = List ℕ × Option Keyword
+
+-- the rows of a table of reserved words of the code
+abbrev pub rows_of : List (Bor (List ℕ) × Option Keyword) → List ReservedRow
+rows_of rows = map (λ row. (row.0.now, row.1)) rows
+
+-- all of them
+unfoldable pub reserved_rows : List ReservedRow
+reserved_rows = map (λ word. (word, keyword_of word)) reserved_words
 
 -- the rows of a table of the code
 abbrev pub entries_of : List (Bor (List ℕ) × Option Punct) → List Row
