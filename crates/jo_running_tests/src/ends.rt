@@ -6,23 +6,23 @@ use std::io;
 use std::process::Abort;
 use std::test::Fail;
 
-// Reads into one buffer of three bytes, call after call.
+// Reads into one buffer of three bytes, call after call. Calls are numbered from 0 where one fails.
 fn check_reads<S: Source>(
     rt: &impl Abort,
     source: &mut S,
     calls: &[(Result<usize, Failed>, [u8; 3])],
 ) {
     let mut buffer = *b"---";
-    for (answer, after) in calls {
-        assert_eq!(rt; source.read(&mut buffer), *answer);
-        assert_eq!(rt; buffer, *after);
+    for (call, (answer, after)) in calls.iter().enumerate() {
+        assert_eq!(rt; source.read(&mut buffer), *answer, "call {call}");
+        assert_eq!(rt; buffer, *after, "call {call}");
     }
 }
 
 // Writes buffer after buffer.
 fn check_writes<S: Sink>(rt: &impl Abort, sink: &mut S, calls: &[(&[u8], Result<usize, Failed>)]) {
-    for (buffer, answer) in calls {
-        assert_eq!(rt; sink.write(buffer), *answer);
+    for (call, (buffer, answer)) in calls.iter().enumerate() {
+        assert_eq!(rt; sink.write(buffer), *answer, "call {call}");
     }
 }
 

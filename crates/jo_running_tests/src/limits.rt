@@ -37,7 +37,7 @@ fn a_long_script_is_run(rt: HostRuntime) -> Result<(), Fail> {
 
 // ---- names of an object
 
-// Puts of so many names on the shared object, and then more.
+// Puts of new names on the shared object, and then more.
 fn puts(alloc: Global, count: u32, last: &str) -> Result<String, AllocError> {
     let mut script = String::new(alloc);
     for k in 0..count {
@@ -47,7 +47,7 @@ fn puts(alloc: Global, count: u32, last: &str) -> Result<String, AllocError> {
     Ok(script)
 }
 
-// What is written: the line of the outcome and before it, and the shared object with such names.
+// What is written: the lines up to the outcome, and the shared object with the names from the first one to the end.
 fn output_of(alloc: Global, before: &str, first: u32, end: u32) -> Result<String, AllocError> {
     let mut output = format!(in alloc; "{before}#0.0 {{\"k{first}\": {first}")?;
     for k in first.saturating_add(1)..end {
@@ -82,7 +82,7 @@ fn a_name_is_added_where_one_was_deleted(rt: HostRuntime) -> Result<(), Fail> {
 
 // ---- objects of a pass
 
-// So many empty objects of pass 1, behind the line of the outcome.
+// Empty objects of pass 1, behind the lines up to the outcome.
 fn objects(alloc: Global, before: &str, count: u32) -> Result<String, AllocError> {
     let mut output = format!(in alloc; "{before}#0.0 {{}}\n")?;
     for k in 0..count {
@@ -135,7 +135,7 @@ fn a_line_too_many_ends_the_script(rt: HostRuntime) -> Result<(), Fail> {
 
 // ---- turns, where the words give none
 
-// A loop of so many tests, and what is written for it.
+// A loop that takes a million turns, one that would take one more, and what is written for it.
 const LOOPS: [(&[u8], Status, &[u8]); 2] = [
     (
         b"let i = 0; while (i < 999999) i += 1; print(i);",

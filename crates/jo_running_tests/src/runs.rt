@@ -55,22 +55,37 @@ fn sink_of(alloc: Global, row: Row<'_>) -> Result<MemorySink, AllocError> {
     Ok(MemorySink::new(Vec::new(alloc), 1, failing))
 }
 
+// What names a row where it fails: its words, the read and the write that fail, and how its input begins.
+fn name_of(alloc: Global, row: Row<'_>) -> Result<String, AllocError> {
+    let beginning = &row.input[..row.input.len().min(80)];
+    let input = String::from_utf8_lossy(alloc, beginning)?;
+    format!(in alloc;
+        "{:?}, read {:?}, write {:?}: {input}",
+        row.words, row.read, row.write
+    )
+}
+
 /// Runs what a row says, and compares what comes of it.
 pub fn check<R: Abort + Threads + Wait + Sync>(
     rt: &R,
     alloc: Global,
     row: Row<'_>,
 ) -> Result<(), AllocError> {
+    let name = name_of(alloc, row)?;
     let words = words_of(alloc, row.words)?;
     let mut source = source_of(alloc, row)?;
     let mut sink = sink_of(alloc, row)?;
     let kept = run(rt, alloc, &words, &mut source, &mut sink, &OpenGate);
-    assert_eq!(rt; (kept.status, kept.ended.is_some()), (row.status, row.ran));
-    assert_eq!(rt; sink.bytes(), row.output);
+    assert_eq!(rt;
+        (kept.status, kept.ended.is_some()),
+        (row.status, row.ran),
+        "{name}"
+    );
+    assert_eq!(rt; sink.bytes(), row.output, "{name}");
     Ok(())
 }
 
-/// The part so many times.
+/// The part, as often as the count says.
 pub fn times(alloc: Global, part: &str, count: usize) -> Result<Vec<u8>, AllocError> {
     part.repeat(alloc, count)?.as_bytes().to_vec(alloc)
 }

@@ -6,7 +6,7 @@ use std::test::Fail;
 // A script and what is written for it.
 type Script = (&'static [u8], &'static [u8]);
 
-const DONE: [Script; 22] = [
+const DONE: [Script; 23] = [
     (
         b"shared.x = 1; shared.y = 2; print(shared.x, shared.z);",
         b"1| 1 undefined\n1= done\n#0.0 {\"x\": 1, \"y\": 2}\n",
@@ -73,6 +73,11 @@ const DONE: [Script; 22] = [
     (
         b"print(shared.if, shared.class); shared.x = 1; shared.x = (2);",
         b"1| undefined undefined\n1= done\n#0.0 {\"x\": 2}\n",
+    ),
+    // Control characters and other line ends are written as they are, since only a line feed ends a line.
+    (
+        b"print(\"\x00\x01\t\x0b\x7f\xc2\x85\xe2\x80\xa8\"); shared[\"\x01\t\"] = \"\x1f\x0c\";",
+        b"1| \x00\x01\t\x0b\x7f\xc2\x85\xe2\x80\xa8\n1= done\n#0.0 {\"\x01\t\": \"\x1f\x0c\"}\n",
     ),
     (b"%%\n", b"1= done\n2= done\n#0.0 {}\n"),
     (b"print(1);\r\n%%\r\n", b"1| 1\n1= done\n2= done\n#0.0 {}\n"),

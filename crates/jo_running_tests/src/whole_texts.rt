@@ -42,8 +42,12 @@ fn no_read_comes_after_the_end_or_the_limit(rt: HostRuntime) -> Result<(), Fail>
     for (input, limit, not_needed, expected) in rows {
         let mut source = MemorySource::new(input.to_vec(alloc)?, 1, vec![in alloc; not_needed]?);
         let bytes = read_all(alloc, limit, &mut source)?;
-        assert_eq!(rt; bytes.as_slice(), expected);
-        assert_eq!(rt; source.read(&mut [0]), Err(Failed));
+        assert_eq!(rt; bytes.as_slice(), expected, "{input:?} up to {limit}");
+        assert_eq!(rt;
+            source.read(&mut [0]),
+            Err(Failed),
+            "{input:?} up to {limit}"
+        );
     }
     Ok(())
 }
@@ -54,8 +58,8 @@ fn no_empty_buffer_is_written(rt: HostRuntime) -> Result<(), Fail> {
     for (text, not_needed) in [(b"xyz".as_slice(), 4), (b"".as_slice(), 1)] {
         let mut sink = MemorySink::new(Vec::new(alloc), 1, vec![in alloc; not_needed]?);
         write_all(&mut sink, text)?;
-        assert_eq!(rt; sink.bytes(), text);
-        assert_eq!(rt; sink.write(b"z"), Err(Failed));
+        assert_eq!(rt; sink.bytes(), text, "{text:?}");
+        assert_eq!(rt; sink.write(b"z"), Err(Failed), "{text:?}");
     }
     Ok(())
 }

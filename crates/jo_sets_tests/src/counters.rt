@@ -8,7 +8,7 @@ const FIRST: &str = "shared.n = 0;\n";
 
 const OTHER: &str = "%%\nwhile (shared.n === undefined) {}\n";
 
-// A script adds 1 to the counter so often, and tries again where another one was faster.
+// A script adds 1 to the counter 1,000 times, and tries again where another one was faster.
 const RAISE: &str =
     "let i = 0; while (i < 1000) { let v = shared.n; if (cas(shared, \"n\", v, v + 1) === v) { i += 1; } }\n";
 

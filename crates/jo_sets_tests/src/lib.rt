@@ -4,6 +4,8 @@
 #[cfg(test)]
 mod apart;
 #[cfg(test)]
+mod asked;
+#[cfg(test)]
 mod counters;
 #[cfg(test)]
 mod ends;
@@ -14,6 +16,6 @@ mod meetings;
 #[cfg(test)]
 mod races;
 #[cfg(test)]
-mod runs;
+mod reference;
 #[cfg(test)]
-mod slow;
+mod runs;

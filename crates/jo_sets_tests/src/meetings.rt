@@ -12,13 +12,22 @@ const LIMIT: u32 = 20_000;
 /// long raises the flag `late` and goes on.
 #[derive(Drop)]
 pub(crate) struct Meeting<'a, R> {
-    pub(crate) rt: &'a R,
-    pub(crate) one: AtomicBool,
-    pub(crate) two: AtomicBool,
+    rt: &'a R,
+    one: AtomicBool,
+    two: AtomicBool,
     pub(crate) late: AtomicBool,
 }
 
 impl<'a, R: Clock> Meeting<'a, R> {
+    pub(crate) fn new(rt: &'a R) -> Self {
+        Meeting {
+            rt,
+            one: AtomicBool::new(false),
+            two: AtomicBool::new(false),
+            late: AtomicBool::new(false),
+        }
+    }
+
     fn meet(&self, own: &AtomicBool, other: &AtomicBool) {
         own.store(true, SeqCst);
         for _ in 0..LIMIT {

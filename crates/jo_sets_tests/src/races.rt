@@ -20,11 +20,11 @@ struct Race<'a> {
 }
 
 fn check_middle(rt: &impl Abort, ran: &Ran, race: Race<'_>) {
-    assert_eq!(rt; ran.status, Status::Done);
+    assert_eq!(rt; ran.status, Status::Done, "{}", race.scripts);
     let rest = ran.text.strip_prefix(race.front).unwrap_or("no front");
     let middle = rest.strip_suffix(race.back).unwrap_or("no back");
     let allowed = race.middles.iter().any(|other| *other == middle);
-    assert!(rt; allowed, "{}", ran.text);
+    assert!(rt; allowed, "{} of {}", ran.text, race.scripts);
 }
 
 fn check<R: Abort + Threads + Wait + Sync>(

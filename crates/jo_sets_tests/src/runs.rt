@@ -78,14 +78,14 @@ pub(crate) struct Row<'a> {
     pub(crate) text: &'a str,
 }
 
-/// Runs the scripts of a row, and compares what comes of them.
+/// Runs the scripts of a row, and compares what comes of them. Words and scripts name a row that fails.
 pub(crate) fn check<R: Abort + Threads + Wait + Sync>(
     rt: &R,
     alloc: Global,
     row: Row<'_>,
 ) -> Result<(), AllocError> {
     let ran = run_set(rt, alloc, row.words, row.scripts)?;
-    assert_eq!(rt; ran.text.as_str(), row.text);
-    assert_eq!(rt; ran.status, row.status);
+    assert_eq!(rt; ran.text.as_str(), row.text, "{:?} of {:?}", row.words, row.scripts);
+    assert_eq!(rt; ran.status, row.status, "{:?} of {:?}", row.words, row.scripts);
     Ok(())
 }
