@@ -6,7 +6,7 @@ use Rattle.std.specs.Option.{option_map}
 use Rattle.std.proofs.lemmas.List.{length-map}
 use Rattle.std.proofs.lemmas.Option.{same_Some, slice_get-map}
 use Rattle.jo_value.specs.Texts.{Table}
-use Rattle.jo_tree.specs.Trees.{Items}
+use Rattle.jo_parse_tree.specs.Trees.{Items}
 use Rattle.jo_model.specs.History.{heap_after}
 use Rattle.jo_model.specs.Rendered.{outcome_bytes, run_bytes, heap_bytes}
 use Rattle.jo_heap.specs.Closing.{heap_left, history_left, counts_of_pass}
@@ -16,8 +16,8 @@ use Rattle.jo_meaning.specs.Output.{stand_bytes, script_bytes}
 use Rattle.jo_run.specs.declared.set.Ended.{Ended}
 use Rattle.jo_run.specs.declared.set.EndedScript.{EndedScript}
 use Rattle.jo_run.specs.Sets.{HaveRun, outcomes_of}
-use Rattle.jo_answer.specs.declared.order.Form.{Form}
-use Rattle.jo_answer.specs.declared.order.Form.TheVariants as forms
+use Rattle.jo_answer.specs.declared.options.Form.{Form}
+use Rattle.jo_answer.specs.declared.options.Form.TheVariants as forms
 use Rattle.jo_answer.specs.Forms.{counts_line, written_of}
 use Rattle.jo_answer.specs.Texts.{part_bytes, whole_bytes, ended_bytes}
 

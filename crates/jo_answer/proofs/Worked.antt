@@ -7,10 +7,10 @@ use Rattle.jo_value.specs.declared.value.NameId.{NameId}
 use Rattle.jo_value.specs.declared.value.Key.TheVariants.{Name}
 use Rattle.jo_value.specs.declared.value.Value.TheVariants.{Int, Null}
 use Rattle.jo_lex.specs.declared.refusal.RefusalKind.TheVariants.{NestedTooDeep}
-use Rattle.jo_tree.specs.declared.keyword.Keyword.TheVariants as keyword
-use Rattle.jo_tree.specs.declared.operator.AssignOperator.TheVariants.{Set}
-use Rattle.jo_tree.specs.declared.word.Name.TheVariants.{Ident}
-use Rattle.jo_tree.specs.Trees.{Tree, number, constant, member, assign, no_accesses, field, Statement, print, evaluate, Items, no_items, perform}
+use Rattle.jo_parse_tree.specs.declared.keyword.Keyword.TheVariants as keyword
+use Rattle.jo_parse_tree.specs.declared.operator.AssignOperator.TheVariants.{Set}
+use Rattle.jo_parse_tree.specs.declared.word.Name.TheVariants.{Ident}
+use Rattle.jo_parse_tree.specs.Trees.{Tree, number, constant, member, assign, no_accesses, field, Statement, print, evaluate, Items, no_items, perform}
 use Rattle.jo_model.specs.declared.call.Call.TheVariants.{Put}
 use Rattle.jo_model.specs.declared.call.Outcome.TheVariants as outcome
 use Rattle.jo_model.specs.declared.call.Reply.TheVariants.{Done}

@@ -3,15 +3,15 @@ use Rattle.std.specs.Prelude.{◌≡◌, ℕ, ◌<◌, List, length, All, Option
 use Rattle.jo_value.specs.declared.limits.TheConstants.{MOST_INPUT}
 use Rattle.jo_value.specs.Texts.{Table}
 use Rattle.jo_lex.specs.declared.refusal.Refusal.{Refusal}
-use Rattle.jo_tree.specs.Trees.{Items}
+use Rattle.jo_parse_tree.specs.Trees.{Items}
 use Rattle.jo_model.specs.declared.call.Outcome.TheVariants as outcome
-use Rattle.jo_grammar.specs.Sets.{IsAcceptedSet, IsRefusal}
+use Rattle.jo_parse_grammar.specs.Sets.{IsAcceptedSet, IsRefusal}
 use Rattle.jo_run.specs.declared.set.Ended.{Ended}
 use Rattle.jo_run.specs.declared.set.EndedScript.{EndedScript}
 use Rattle.jo_run.specs.Sets.{HaveRun}
 use Rattle.jo_answer.specs.declared.due.Verdict.{Verdict}
 use Rattle.jo_answer.specs.declared.due.Verdict.TheVariants as verdict
-use Rattle.jo_answer.specs.declared.order.Order.{Order}
+use Rattle.jo_answer.specs.declared.options.RunOptions.{RunOptions}
 use Rattle.jo_answer.specs.Forms.{written_of}
 use Rattle.jo_answer.specs.Lines.{refusal_line, size_line}
 
@@ -19,12 +19,12 @@ use Rattle.jo_answer.specs.Lines.{refusal_line, size_line}
 
 -- The bytes are an accepted set, which was run with as many turns for each script as the order says: all calls make one legal
 -- history of its scripts, and what is written is the output of that, or what else the order asks for.
-pub record IsRun (order : Order) (ended : Ended) (bytes written : List ℕ) : Type 0 where
+pub record IsRun (options : RunOptions) (ended : Ended) (bytes written : List ℕ) : Type 0 where
   pub scripts : List Items
   pub texts : Table
   pub set : IsAcceptedSet bytes scripts texts
-  pub run : HaveRun scripts texts order.turns ended.scripts.items ended.closed
-  pub output_is : written ≡ written_of order.form texts order.turns scripts ended
+  pub run : HaveRun scripts texts options.turns ended.scripts.items ended.closed
+  pub output_is : written ≡ written_of options.form texts options.turns scripts ended
 
 -- all scripts came to their ends without a fault
 abbrev pub AreDone : List EndedScript → Type 0
@@ -44,12 +44,12 @@ pub record IsRefusalLine (bytes written : List ℕ) : Type 0 where
 
 -- What is said of these bytes with this order, what is left of a run, and what is due for them. Nothing is left where nothing
 -- was run.
-abbrev pub IsDue : Verdict → Order → List ℕ → Option Ended → List ℕ → Type 0
-IsDue verdict.Done order bytes (Some ended) written = AreDone ended.scripts.items × IsRun order ended bytes written
-IsDue verdict.EndedWithFaults order bytes (Some ended) written = (AreDone ended.scripts.items → ⊥) × IsRun order ended bytes written
-IsDue verdict.Refused order bytes None written = IsRefusalLine bytes written
-IsDue verdict.TooLarge order bytes None written = (MOST_INPUT < length bytes) × (written ≡ size_line)
-IsDue _ order bytes _ written = ⊥
+abbrev pub IsDue : Verdict → RunOptions → List ℕ → Option Ended → List ℕ → Type 0
+IsDue verdict.Done options bytes (Some ended) written = AreDone ended.scripts.items × IsRun options ended bytes written
+IsDue verdict.EndedWithFaults options bytes (Some ended) written = (AreDone ended.scripts.items → ⊥) × IsRun options ended bytes written
+IsDue verdict.Refused options bytes None written = IsRefusalLine bytes written
+IsDue verdict.TooLarge options bytes None written = (MOST_INPUT < length bytes) × (written ≡ size_line)
+IsDue _ options bytes _ written = ⊥
 
 -- ---- which inputs these are
 

@@ -3,7 +3,7 @@ use Rattle.std.specs.Prelude.{ℕ, ◌+◌, Bool, true, false, List, ◌++◌, c
 use Rattle.std.specs.Fmt.{signed_decimal}
 use Rattle.std.specs.List.{enumerate_from}
 use Rattle.jo_value.specs.Texts.{Table}
-use Rattle.jo_tree.specs.Trees.{Items}
+use Rattle.jo_parse_tree.specs.Trees.{Items}
 use Rattle.jo_model.specs.declared.call.Outcome.{Outcome}
 use Rattle.jo_model.specs.declared.call.Outcome.TheVariants as outcome
 use Rattle.jo_model.specs.Heaps.{Heap}
@@ -15,8 +15,8 @@ use Rattle.jo_meaning.specs.Output.{output, script_bytes}
 use Rattle.jo_totals.specs.Totals.{totals_of}
 use Rattle.jo_run.specs.declared.set.Ended.{Ended}
 use Rattle.jo_run.specs.Sets.{outcomes_of}
-use Rattle.jo_answer.specs.declared.order.Form.{Form}
-use Rattle.jo_answer.specs.declared.order.Form.TheVariants as form
+use Rattle.jo_answer.specs.declared.options.Form.{Form}
+use Rattle.jo_answer.specs.declared.options.Form.TheVariants as form
 
 -- the counts of the script with this number
 abbrev pub counts_line : ℕ → Counts → List ℕ

@@ -9,8 +9,8 @@ use Rattle.jo_heap.specs.Closing.{heap_left}
 use Rattle.jo_run.specs.declared.set.Ended.{Ended}
 use Rattle.jo_run.specs.declared.set.EndedScript.{EndedScript}
 use Rattle.jo_run.specs.Sets.{outcomes_of}
-use Rattle.jo_answer.specs.declared.order.Form.{Form}
-use Rattle.jo_answer.specs.declared.order.Form.TheVariants as form
+use Rattle.jo_answer.specs.declared.options.Form.{Form}
+use Rattle.jo_answer.specs.declared.options.Form.TheVariants as form
 use Rattle.jo_answer.specs.Forms.{counts_line, summary_line}
 use Rattle.jo_answer.specs.declared.text.Due.{Due}
 use Rattle.jo_answer.specs.declared.text.Due.TheVariants as due

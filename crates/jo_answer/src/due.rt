@@ -2,11 +2,11 @@
 ghost use Rattle.std.specs.Prelude.{◌≡◌, ◌≤◌, length, List, ℕ, IfOk};
 ghost use Rattle.jo_value.specs.declared.limits.TheConstants.{MOST_INPUT};
 ghost use Rattle.jo_parse.specs.Parsed.{trees_of};
-ghost use Rattle.jo_grammar.specs.Sets.{IsAcceptedSet};
+ghost use Rattle.jo_parse_grammar.specs.Sets.{IsAcceptedSet};
 ghost use Rattle.jo_answer.specs.Answers.{IsDue, IsVerdictOf};
 ghost use Rattle.jo_answer.specs.Texts.{IsPrintable, ended_of, text_of};
 
-use crate::Order;
+use crate::RunOptions;
 use crate::lines::{SIZE_LINE, refusal_line};
 use crate::text::Due;
 use jo_model::Outcome;
@@ -38,16 +38,16 @@ pub struct Answer {
 }
 
 /// The answer to an input, which may be a byte longer than an input may be. An accepted set is run as the order says, each script in
-/// a thread of its own, and with this gate before its calls. Once a script runs no memory is wanted.
+/// a thread of its own, and with this gate before its calls. Once a script runs no memory is asked for.
 pub fn answer_to<R: Threads + Wait + Sync, G: Gate>(
     rt: &R,
     alloc: Global,
     bytes: &[u8],
-    order: Order,
+    options: RunOptions,
     gate: &G,
 ) -> Result<Answer, AllocError>
     ensures whole { IfOk result (λ answer. (answer.verdict ≡ Verdict.TooLarge → ⊥) → length bytes.now ≤ MOST_INPUT) }
-    ensures due { IfOk result (λ answer. IsDue answer.verdict order bytes.now (ended_of answer.due) (text_of answer.due)) }
+    ensures due { IfOk result (λ answer. IsDue answer.verdict options bytes.now (ended_of answer.due) (text_of answer.due)) }
     ensures printable { IfOk result (λ answer. IsPrintable answer.due) }
 {
     if bytes.len() > MOST_INPUT {
@@ -58,7 +58,7 @@ pub fn answer_to<R: Threads + Wait + Sync, G: Gate>(
     }
     match parse_set(alloc, bytes) {
         Ok(set) => {
-            let answer = answer_to_set(rt, alloc, set, order, gate)?;
+            let answer = answer_to_set(rt, alloc, set, options, gate)?;
             Ok(answer)
         }
         Err(ParseFault::Refused(refusal)) => Ok(Answer {
@@ -74,20 +74,20 @@ fn answer_to_set<R: Threads + Wait + Sync, G: Gate>(
     rt: &R,
     alloc: Global,
     set: ScriptSet,
-    order: Order,
+    options: RunOptions,
     gate: &G,
 ) -> Result<Answer, AllocError>
     ensures due { IfOk result (λ answer. (bytes : List ℕ) → IsAcceptedSet bytes (trees_of set) set.1
-        → IsDue answer.verdict order bytes (ended_of answer.due) (text_of answer.due)) }
+        → IsDue answer.verdict options bytes (ended_of answer.due) (text_of answer.due)) }
     ensures printable { IfOk result (λ answer. IsPrintable answer.due) }
 {
-    let ended = run_set(rt, alloc, &set, order.turns, gate)?;
+    let ended = run_set(rt, alloc, &set, options.turns, gate)?;
     Ok(Answer {
         verdict: verdict_of(&ended.scripts),
         due: Due::Output {
             set,
             ended,
-            form: order.form,
+            form: options.form,
         },
     })
 }

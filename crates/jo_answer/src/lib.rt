@@ -3,10 +3,10 @@
 
 mod due;
 mod lines;
-mod order;
+mod options;
 mod summary;
 mod text;
 
 pub use due::{Answer, Verdict, answer_to};
-pub use order::{Form, Order};
+pub use options::{Form, RunOptions};
 pub use text::{Due, Written};

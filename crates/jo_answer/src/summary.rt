@@ -1,13 +1,12 @@
 // The line that sums up a made set.
 ghost use Rattle.std.specs.Prelude.{◌≡◌, count_by};
 ghost use Rattle.jo_heap.specs.Closing.{heap_left};
-ghost use Rattle.jo_print.specs.Printers.{Prints};
+ghost use Rattle.jo_io.specs.Printers.{Prints};
 ghost use Rattle.jo_run.specs.Sets.{outcomes_of};
 ghost use Rattle.jo_answer.specs.Forms.{is_done, summary_line};
 
-use jo_io::Sink;
+use jo_io::{Printer, Sink};
 use jo_model::Outcome;
-use jo_print::Printer;
 use jo_run::{Ended, EndedScript};
 use jo_totals::totals;
 

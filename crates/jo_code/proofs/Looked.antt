@@ -1,17 +1,17 @@
 -- A first look at an expression, and at rows of them.
 use Rattle.std.proofs.Common.{◌≡◌, refl}
-use Rattle.jo_tree.specs.declared.expr.Expr.{more_of-Expr, end_of-Expr}
-use Rattle.jo_tree.specs.declared.expr.Access.TheBlock.{more_of-Object, end_of-Object, more_of-Cas, end_of-Cas}
-use Rattle.jo_tree.specs.declared.expr.Object.{Object'}
-use Rattle.jo_tree.specs.declared.expr.Primary.{Primary}
-use Rattle.jo_tree.specs.declared.expr.Primary.TheVariants as p
-use Rattle.jo_tree.specs.Views.{primary_tree}
+use Rattle.jo_parse_tree.specs.declared.expr.Expr.{more_of-Expr, end_of-Expr}
+use Rattle.jo_parse_tree.specs.declared.expr.Access.TheBlock.{more_of-Object, end_of-Object, more_of-Cas, end_of-Cas}
+use Rattle.jo_parse_tree.specs.declared.expr.Object.{Object'}
+use Rattle.jo_parse_tree.specs.declared.expr.Primary.{Primary}
+use Rattle.jo_parse_tree.specs.declared.expr.Primary.TheVariants as p
+use Rattle.jo_parse_tree.specs.Views.{primary_tree}
 use Rattle.jo_meaning.specs.State.{Environment}
 use Rattle.jo_code.specs.inner.Code.{plain_reading, reading_of}
 
 -- of a primary expression no more is looked at
 pub primary-alike : (environment : Environment) (v : Primary) → plain_reading environment (primary_tree v) ≡ reading_of environment (primary_tree v)
-unfolding Rattle.jo_tree.specs.Views.primary_tree
+unfolding Rattle.jo_parse_tree.specs.Views.primary_tree
 primary-alike environment (p.Number n) = refl
 primary-alike environment (p.Text s) = refl
 primary-alike environment p.True = refl

@@ -8,7 +8,7 @@ use Rattle.std.specs.Prelude.{nat_eq, if◌then◌else◌}
 use Rattle.std.proofs.lemmas.Bool.{eqb-true}
 use Rattle.std.specs.HashMap.{get, HashMap}
 use Rattle.std.specs.Option.{unwrap_or}
-use Rattle.jo_tree.specs.declared.word.Ident.{Ident}
+use Rattle.jo_parse_tree.specs.declared.word.Ident.{Ident}
 use Rattle.jo_meaning.specs.State.{Environment, variable_of}
 use Rattle.jo_code.specs.declared.scope.Declared.{Declared}
 use Rattle.jo_code.specs.inner.Scopes.{names_in, slot_of, AreKept, meaning_in, Means}

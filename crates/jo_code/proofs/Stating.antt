@@ -1,10 +1,10 @@
 -- What the calls for each kind of statement come to.
 use Rattle.std.proofs.Common.{◌≡◌, ℕ, suc, ◌+◌, ◌-◌, List, [], ◌∷◌, length, Option, Some, Result, Ok, Err, refl, sym, ap, ◌∙◌}
 use Rattle.std.specs.Prelude.{IfOk, OnOk}
-use Rattle.jo_tree.specs.declared.expr.Expr.{Expr}
-use Rattle.jo_tree.specs.ScriptViews.{if_tree, trees_list}
-use Rattle.jo_tree.specs.Trees.{Tree, Statement, when}
-use Rattle.jo_tree.proofs.ScriptShapes.{script_shapes, statement_tree-block}
+use Rattle.jo_parse_tree.specs.declared.expr.Expr.{Expr}
+use Rattle.jo_parse_tree.specs.ScriptViews.{if_tree, trees_list}
+use Rattle.jo_parse_tree.specs.Trees.{Tree, Statement, when}
+use Rattle.jo_parse_tree.proofs.ScriptShapes.{script_shapes, statement_tree-block}
 use Rattle.jo_meaning.specs.State.{Environment}
 use Rattle.jo_code.specs.declared.instruction.Instruction.{Instruction}
 use Rattle.jo_code.specs.declared.instruction.Instruction.TheVariants.{Go, Again}

@@ -4,7 +4,7 @@ ghost use Rattle.jo_code.specs.declared.instruction.Instruction.TheVariants.{Put
 ghost use Rattle.jo_code.specs.declared.instruction.Operand.TheVariants as operand;
 ghost use Rattle.jo_code.specs.inner.Code.{adjusts, adjusts_variable, assigns_declared, assigns_property, assigns_value, assigns_variable, code_of, is_kept, old_operand, puts, reading_of, right_code, settle_kept};
 ghost use Rattle.jo_code.specs.inner.Emitted.{after_base, base_use};
-ghost use Rattle.jo_tree.specs.Views.{accesses_list, assign_tree, expr_tree, primary_tree};
+ghost use Rattle.jo_parse_tree.specs.Views.{accesses_list, assign_tree, expr_tree, primary_tree};
 
 use crate::draft::Draft;
 use crate::members::Spot;
@@ -14,7 +14,9 @@ use crate::scope::Scope;
 use crate::usage::{Reading, Use};
 use crate::values::is_kept;
 use crate::{Instruction, Operand};
-use jo_tree::{Access, Assign, AssignOperator, BinaryOperator, Expr, Member, Primary, Target};
+use jo_parse_tree::{
+    Access, Assign, AssignOperator, BinaryOperator, Expr, Member, Primary, Target,
+};
 use std::alloc::AllocError;
 
 // The operand of the old value of a variable, to which a value that is read like this is added.

@@ -2,13 +2,13 @@
 ghost use Rattle.std.specs.Prelude.{◌≡◌, IfOk};
 ghost use Rattle.jo_code.specs.Behaves.{Behaves};
 ghost use Rattle.jo_code.specs.inner.StatementCode.{script_code};
-ghost use Rattle.jo_tree.specs.ScriptViews.{script_tree};
+ghost use Rattle.jo_parse_tree.specs.ScriptViews.{script_tree};
 
 use crate::Instruction;
 use crate::code::Code;
 use crate::draft::Draft;
 use crate::scope::Scope;
-use jo_tree::Script;
+use jo_parse_tree::Script;
 use std::alloc::{AllocError, Global};
 
 // The instructions of a script.

@@ -2,13 +2,13 @@
 ghost use Rattle.std.specs.Prelude.{◌≡◌, OnOk};
 ghost use Rattle.jo_code.specs.inner.Stated.{binding_code};
 ghost use Rattle.jo_code.specs.inner.StatementCode.{binds_code, condition_code, initial_code, starts_code, step_code, use_of};
-ghost use Rattle.jo_tree.specs.ScriptViews.{binding_tree, bindings_list, head_tree, option_tree};
+ghost use Rattle.jo_parse_tree.specs.ScriptViews.{binding_tree, bindings_list, head_tree, option_tree};
 
 use crate::Operand;
 use crate::draft::Draft;
 use crate::scope::Scope;
 use crate::usage::Use;
-use jo_tree::{Binding, Expr, ForHead};
+use jo_parse_tree::{Binding, Expr, ForHead};
 use sqlite_items::Boxed;
 use std::alloc::AllocError;
 
@@ -37,7 +37,7 @@ impl Draft {
         }
     }
 
-    /// The condition of a `for`, which may be left out. Where it fails, so many instructions are skipped.
+    /// The condition of a `for`, which may be left out. Where it fails, `skip` instructions are skipped.
     pub(crate) fn condition(
         &mut self,
         scope: &Scope,

@@ -51,7 +51,7 @@ impl Draft {
         Ok(())
     }
 
-    /// Writes another instruction in the place of the one behind which so many stand.
+    /// Writes another instruction in the place of the one behind which `place` others stand.
     pub(crate) fn set(&mut self, place: u32, instruction: Instruction)
         ensures { IsPatched place instruction self.old self.new }
     {

@@ -2,8 +2,8 @@
 ghost use Rattle.std.specs.Prelude.{◌≡◌, OnOk};
 ghost use Rattle.jo_code.specs.inner.Code.{code_of, reading_of};
 ghost use Rattle.jo_code.specs.inner.Emitted.{applied_code};
-ghost use Rattle.jo_tree.specs.Trees as tree;
-ghost use Rattle.jo_tree.specs.Views.{chain_tree, choice_tree, cond_tree, expr_tree, postfix_tree, primary_tree, unary_tree};
+ghost use Rattle.jo_parse_tree.specs.Trees as tree;
+ghost use Rattle.jo_parse_tree.specs.Views.{chain_tree, choice_tree, cond_tree, expr_tree, postfix_tree, primary_tree, unary_tree};
 
 use crate::draft::Draft;
 use crate::operands::operand_in;
@@ -11,7 +11,7 @@ use crate::scope::Scope;
 use crate::usage::Use;
 use crate::values::{destination_of, farther};
 use crate::{Instruction, Operand};
-use jo_tree::{Chain, Choice, Cond, Expr, Postfix, Primary, Unary, UnaryOperator};
+use jo_parse_tree::{Chain, Choice, Cond, Expr, Postfix, Primary, Unary, UnaryOperator};
 use std::alloc::AllocError;
 
 impl Draft {

@@ -5,8 +5,8 @@ ghost use Rattle.jo_code.specs.declared.usage.Late.TheVariants as late;
 ghost use Rattle.jo_code.specs.declared.usage.Use.TheVariants as usage;
 ghost use Rattle.jo_code.specs.inner.Code.{base_operand, before, code_of, deletes_code, last_late, reaches_code};
 ghost use Rattle.jo_code.specs.inner.Emitted.{access_code, key_code, key_reading, last_key, last_object, left_at, nothing, place_code};
-ghost use Rattle.jo_tree.specs.Trees.{no_accesses};
-ghost use Rattle.jo_tree.specs.Views.{accesses_list, accesses_with, member_tree, primary_tree};
+ghost use Rattle.jo_parse_tree.specs.Trees.{no_accesses};
+ghost use Rattle.jo_parse_tree.specs.Views.{accesses_list, accesses_with, member_tree, primary_tree};
 
 use crate::chains::left_at;
 use crate::draft::Draft;
@@ -15,7 +15,7 @@ use crate::scope::Scope;
 use crate::usage::{Late, Reading, Use};
 use crate::values::destination_of;
 use crate::{Destination, Instruction, Operand};
-use jo_tree::{Access, Member, Primary};
+use jo_parse_tree::{Access, Member, Primary};
 use std::alloc::AllocError;
 
 /// Where the last access of a property finds its values.

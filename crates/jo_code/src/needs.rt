@@ -31,7 +31,7 @@ impl Needs {
         }
     }
 
-    // The need behind so many instructions.
+    // The need behind `skip` instructions.
     fn at(&self, skip: u32) -> u32
         ensures { result ≡ need_at self.now skip }
     {

@@ -3,14 +3,14 @@ ghost use Rattle.std.specs.Prelude.{◌≡◌, OnOk};
 ghost use Rattle.jo_code.specs.declared.usage.Use.TheVariants as usage;
 ghost use Rattle.jo_code.specs.inner.Code.{before, before_base, cas_base, cas_expected, cas_key, code_of, fills_code, operand_of};
 ghost use Rattle.jo_code.specs.inner.Emitted.{fill_code};
-ghost use Rattle.jo_tree.specs.Views.{cas_tree, expr_tree, object_tree, props_list};
+ghost use Rattle.jo_parse_tree.specs.Views.{cas_tree, expr_tree, object_tree, props_list};
 
 use crate::draft::Draft;
 use crate::operands::{base_of, both_late, held, key_operand, late_of, operand_in};
 use crate::scope::Scope;
 use crate::usage::Use;
 use crate::{Base, Instruction, Operand};
-use jo_tree::{Cas, Expr, Object, Prop};
+use jo_parse_tree::{Cas, Expr, Object, Prop};
 use std::alloc::AllocError;
 
 /// Where a `cas` finds its values.

@@ -1,14 +1,14 @@
 // How the values of expressions are found.
 ghost use Rattle.std.specs.Prelude.{◌≡◌, ◌&&◌};
 ghost use Rattle.jo_code.specs.inner.Code.{are_fields, are_plain_accesses, are_plain_links, is_quiet, member_reading, number_reading, plain_reading, pushed_reading, reading_of, variable_reading};
-ghost use Rattle.jo_tree.specs.Views.{accesses_list, accesses_with, binary_tree, chain_tree, cond_tree, expr_tree, links_list, member_tree, postfix_tree, primary_tree, unary_tree};
-ghost use Rattle.jo_tree.specs.Trees.{Accesses};
+ghost use Rattle.jo_parse_tree.specs.Views.{accesses_list, accesses_with, binary_tree, chain_tree, cond_tree, expr_tree, links_list, member_tree, postfix_tree, primary_tree, unary_tree};
+ghost use Rattle.jo_parse_tree.specs.Trees.{Accesses};
 
 use crate::Operand;
 use crate::scope::Scope;
 use crate::usage::Reading;
 use crate::values::{near, small};
-use jo_tree::{Access, Binary, Chain, Cond, Expr, Link, Member, Postfix, Primary, Unary};
+use jo_parse_tree::{Access, Binary, Chain, Cond, Expr, Link, Member, Postfix, Primary, Unary};
 
 fn number_reading(number: i64) -> Reading
     ensures { result ≡ number_reading number }

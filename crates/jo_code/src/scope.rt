@@ -1,11 +1,11 @@
 // The names that the blocks around a place declare.
 ghost use Rattle.std.specs.Prelude.{◌≡◌, ◌-◌, [], ◌∷◌, ◌++◌, length, drop, OnOk};
 ghost use Rattle.jo_meaning.specs.State.{variable_of};
-ghost use Rattle.jo_tree.specs.Blocks.{declared_by, declared_in, names_of};
-ghost use Rattle.jo_tree.specs.ScriptViews.{bindings_list, head_tree, items_list};
+ghost use Rattle.jo_parse_tree.specs.Blocks.{declared_by, declared_in, names_of};
+ghost use Rattle.jo_parse_tree.specs.ScriptViews.{bindings_list, head_tree, items_list};
 ghost use Rattle.jo_code.specs.inner.Scopes.{item_names, slot_of};
 
-use jo_tree::{Binding, ForHead, Ident, Item};
+use jo_parse_tree::{Binding, ForHead, Ident, Item};
 use std::alloc::{AllocError, Global};
 use std::collections::HashMap;
 use std::marker::Model;
@@ -141,7 +141,7 @@ impl Scope {
         }
     }
 
-    /// Goes out of blocks, to where there were so many names.
+    /// Goes out of blocks, to where there were `len` names.
     pub(crate) fn leave(&mut self, len: u32) -> Result<(), AllocError>
         ensures { OnOk result (self.new ≡ drop (length self.old - len) self.old) }
     {

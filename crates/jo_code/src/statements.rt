@@ -4,17 +4,17 @@ ghost use Rattle.jo_code.specs.inner.Code.{pushes_code};
 ghost use Rattle.jo_code.specs.inner.Stated.{IsClosed, branch_tree, first_code, for_tree, item_code, round_code, test_code, when_tree, while_tree};
 ghost use Rattle.jo_code.specs.inner.StatementCode.{items_code, names_code, print_code, statement_code};
 ghost use Rattle.jo_code.specs.declared.instruction.Instruction.TheVariants.{Print};
-ghost use Rattle.jo_tree.specs.Blocks.{declared_in};
-ghost use Rattle.jo_tree.specs.ScriptViews.{items_list, statement_tree, trees_list};
-ghost use Rattle.jo_tree.specs.Trees.{block};
-ghost use Rattle.jo_tree.specs.Views.{expr_tree};
+ghost use Rattle.jo_parse_tree.specs.Blocks.{declared_in};
+ghost use Rattle.jo_parse_tree.specs.ScriptViews.{items_list, statement_tree, trees_list};
+ghost use Rattle.jo_parse_tree.specs.Trees.{block};
+ghost use Rattle.jo_parse_tree.specs.Views.{expr_tree};
 
 use crate::draft::Draft;
 use crate::operands::operand_in;
 use crate::scope::Scope;
 use crate::usage::Use;
 use crate::{Instruction, Operand};
-use jo_tree::{Expr, For, If, Item, Statement, While};
+use jo_parse_tree::{Expr, For, If, Item, Statement, While};
 use std::alloc::AllocError;
 
 // A label that is farther away.
@@ -24,7 +24,7 @@ fn farther(label: u32, skipped: u32) -> Result<u32, AllocError>
     label.checked_add(skipped).ok_or(AllocError)
 }
 
-// An instruction that prints so many values.
+// An instruction that prints `count` values.
 fn print_of(count: usize) -> Result<Instruction, AllocError>
     ensures { IfOk result (λ i. i ≡ Print count) }
 {
@@ -35,14 +35,14 @@ fn print_of(count: usize) -> Result<Instruction, AllocError>
 }
 
 impl Draft {
-    // How many instructions there are more than so many.
+    // How many instructions there are before the last `rest`.
     fn gap(&self, rest: u32) -> u32
         ensures { result ≡ length self.now - rest }
     {
         self.len().saturating_sub(rest)
     }
 
-    // The test of a statement. Where it fails, what was put before so many instructions is skipped.
+    // The test of a statement. Where it fails, all instructions but the last `rest` are skipped.
     fn test(&mut self, scope: &Scope, expr: &Expr, rest: u32) -> Result<(), AllocError>
         ensures { OnOk result (self.new ≡ test_code scope.now (expr_tree expr.now) rest self.old) }
     {
@@ -89,7 +89,7 @@ impl Draft {
         self.put(Instruction::Again(0))
     }
 
-    // A statement, of which a `break` and a `continue` skip so many instructions.
+    // A statement, of which a `break` skips `broken` instructions, and a `continue` `continued` of them.
     #[cycle(statements)]
     #[tactic(auto, using(crate::proofs::Stating::stating))]
     fn statement(
@@ -170,7 +170,7 @@ impl Draft {
         self.test(scope, branch.condition.get(), rest)
     }
 
-    // The test and the first of two, before the other one, behind which so many instructions stand.
+    // The test and the first of two, before the other one, behind which `rest` instructions stand.
     #[cycle(statements)]
     fn either(
         &mut self,

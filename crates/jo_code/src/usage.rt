@@ -11,7 +11,7 @@ pub(crate) enum Use {
     Variable(u32),
     /// It is dropped.
     Nowhere,
-    /// Where its truth is this, so many instructions behind its code are skipped.
+    /// Where its truth is `when`, `skip` instructions behind its code are skipped.
     Test { when: bool, skip: u32 },
 }
 

@@ -1,7 +1,7 @@
 // Code as text, an instruction a line, in the words of `docs/MACHINE.md`.
 
 use jo_code::{Base, Destination, Instruction, Operand};
-use jo_tree::{BinaryOperator, UnaryOperator};
+use jo_parse_tree::{BinaryOperator, UnaryOperator};
 use std::alloc::{AllocError, Global};
 
 // A variable stands as `$` and its number, and a text as its id.

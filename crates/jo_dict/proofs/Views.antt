@@ -12,7 +12,7 @@ use Rattle.jo_rule.specs.Names.{word_at, storage}
 use Rattle.jo_rule.specs.Views.{View, Lock}
 use Rattle.jo_rule.specs.Dictionaries.{block_size, dictionary_header, HasProperties}
 use Rattle.jo_rule.specs.Contents.{HasWords}
-use Rattle.jo_rule.specs.Steps.{filling, writing}
+use Rattle.jo_rule.specs.Steps.{with_own_word, with_block_word}
 use Rattle.jo_steps.specs.Views.{HeldView}
 use Rattle.jo_steps.specs.Holding.{lock_of, lock_or, HoldsLock, HasBlockOf, IsHeldAt}
 use Rattle.jo_dict.specs.Blocks.{OnlyCounts, OnlyStorage, OnlyBlock}
@@ -66,7 +66,7 @@ module _ {P : ℕ} {v : View} {held : HeldView} (l : HoldsLock P v held) where
       e ∙ λ i. record v { lock = (l.lock ∙ ap (λ (x : Lock). Some (record (lock_of v) { block = x.block })) (sym g)) i; counts = u.counts }
 
   -- a word of the block was stored
-  written : (k word : ℕ) (counts : Counts) → 0 < k → HoldsLock P (writing v (lock_of v) k word counts) held
+  written : (k word : ℕ) (counts : Counts) → 0 < k → HoldsLock P (with_block_word v (lock_of v) k word counts) held
   written k word counts pos = record {
     lock = refl;
     object = l.object;
@@ -81,10 +81,10 @@ module _ {P : ℕ} {v : View} {held : HeldView} (l : HoldsLock P v held) where
     inside = l.inside;
   }
 
-  pub still_held : (k word : ℕ) (counts : Counts) (u : View) → 0 < k → u ≡ writing v (lock_of v) k word counts → HoldsLock P u held
+  pub still_held : (k word : ℕ) (counts : Counts) (u : View) → 0 < k → u ≡ with_block_word v (lock_of v) k word counts → HoldsLock P u held
   still_held k word counts u pos e = subst (λ (x : View). HoldsLock P x held) (sym e) (written k word counts pos)
 
-  pub stores_held : (k word : ℕ) (counts : Counts) (u : View) → k < block_size (lock_of v).room → u ≡ writing v (lock_of v) k word counts → Stores (held_words v) k word (held_words u)
+  pub stores_held : (k word : ℕ) (counts : Counts) (u : View) → k < block_size (lock_of v).room → u ≡ with_block_word v (lock_of v) k word counts → Stores (held_words v) k word (held_words u)
   stores_held k word counts u lt e =
       let block = (lock_of v).block in
       let size = l.size in
@@ -125,7 +125,7 @@ block_has v u z e p w f = record { properties = subst (λ (n : ℕ). HasProperti
 pub blocks_then : (v u w : View) → OnlyBlock v u → OnlyBlock u w → OnlyBlock v w
 blocks_then v u w e f = f ∙ ap (λ (x : View). record x { lock = Some (record (lock_of x) { block = (lock_of w).block }); counts = w.counts }) e
 
-pub writes_only : (v u : View) (k word : ℕ) (counts : Counts) → u ≡ writing v (lock_of v) k word counts → OnlyBlock v u
+pub writes_only : (v u : View) (k word : ℕ) (counts : Counts) → u ≡ with_block_word v (lock_of v) k word counts → OnlyBlock v u
 writes_only v u k word counts e = subst (OnlyBlock v) (sym e) refl
 
 -- ---- the own storage
@@ -133,7 +133,7 @@ writes_only v u k word counts e = subst (OnlyBlock v) (sym e) refl
 cases_used : (used k : ℕ) → (if nat_lt used (k + 1) then k + 1 else used) ≡ max used (k + 1)
 cases_used used k = ⊎_elim (λ (lt : used < k + 1). rw (lt-ltb used (k + 1) lt) (omega arith)) (λ (le : k + 1 ≤ used). rw (le-ltb used (k + 1) le) (omega arith)) (cases_lt used (k + 1))
 
-pub fills : (v u : View) (k word : ℕ) (counts : Counts) → u ≡ filling v k word counts → Fills v k word u
+pub fills : (v u : View) (k word : ℕ) (counts : Counts) → u ≡ with_own_word v k word counts → Fills v k word u
 fills v u k word counts e = subst (Fills v k word) (sym e) (record {
   used = cases_used v.storage.used k;
   named = refl;

@@ -26,8 +26,9 @@ OnlyStorage v u = u ≡ record v { storage = u.storage; counts = u.counts }
 abbrev pub OnlyBlock : View → View → Type 0
 OnlyBlock v u = u ≡ record v { lock = Some (record (lock_of v) { block = (lock_of u).block }); counts = u.counts }
 
--- A block was made in the own storage, behind what was used, with room for so many elements. It has the properties of an
--- object, and no cell names it. The storage used has risen by the words of the block, and those used before are as they were.
+-- A block was made in the own storage, behind what was used, with room for `room` elements. It has the properties
+-- of an object, and no cell names it. The storage used has risen by the words of the block, and those used before
+-- are as they were.
 pub record IsMade (v u : View) (room : ℕ) (z : Object) (address : ℕ) : Type 0 where
   pub fits : v.storage.used + block_size room ≤ MOST_STORAGE
   pub here : address ≡ address_of v.number v.storage.used
@@ -37,7 +38,7 @@ pub record IsMade (v u : View) (room : ℕ) (z : Object) (address : ℕ) : Type 
   pub others : (j : ℕ) → j < v.storage.used → word_in u.storage.fresh j ≡ word_in v.storage.fresh j
   pub only : OnlyStorage v u
 
--- the storage does not do for a block with room for so many elements
+-- the storage does not suffice for a block with room for `room` elements
 pub record IsTooMuch (v : View) (room : ℕ) (spent : Spent) : Type 0 where
   pub used : spent.used ≡ v.storage.used
   pub need : spent.need ≡ block_size room

@@ -26,7 +26,7 @@ pub fn names(heap: &Heap, pass: &mut Pass, held: &Held) -> NameList
     list_of(heap, pass, held, names)
 }
 
-// The first so many names.
+// The first `names` names.
 fn list_of(heap: &Heap, pass: &mut Pass, held: &Held, names: u8) -> NameList
     requires held { HasLock heap.now pass.old held.now }
     requires few { names ≤ DICTIONARY_NAMES }

@@ -15,7 +15,8 @@ use jo_model::Spent;
 use jo_steps::{Heap, Held, Pass};
 use jo_value::{DICTIONARY_NAMES, Header, MOST_STORAGE, header_word};
 
-/// A new block of the pass's own storage, with room for so many elements and without properties, which no cell names yet.
+/// A new block of the pass's own storage, with room for `elements` elements and without properties, which no cell
+/// names yet.
 pub fn empty_block(heap: &Heap, pass: &mut Pass, elements: u16) -> Result<u32, Spent>
     requires pass { IsPassOf heap.now pass.old }
     requires elements { elements ≤ MOST_INDEX + 1 }
@@ -37,8 +38,8 @@ pub fn empty_block(heap: &Heap, pass: &mut Pass, elements: u16) -> Result<u32, S
     Ok(address_of(pass.number(), used))
 }
 
-/// A new block of the pass's own storage, with room for so many elements and with the properties that the held block has,
-/// which no cell names yet.
+/// A new block of the pass's own storage, with room for `elements` elements and with the properties that the held
+/// block has, which no cell names yet.
 pub fn block_of(heap: &Heap, pass: &mut Pass, held: &Held, elements: u16) -> Result<u32, Spent>
     requires held { HasLock heap.now pass.old held.now }
     requires block { (z : Object) × HasBlockOf pass.old.view z }

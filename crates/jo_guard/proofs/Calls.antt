@@ -20,7 +20,7 @@ use Rattle.jo_model.proofs.ValidEdits.{in_range, value_valid}
 use Rattle.jo_rule.specs.Events.{changes, object_called, object_reply}
 use Rattle.jo_rule.proofs.Events.{replies}
 use Rattle.jo_guard.specs.Placing.{made_by}
-use Rattle.jo_guard.specs.Leaving.{changes_it, would_change_it}
+use Rattle.jo_guard.specs.Releasing.{changes_it, would_change_it}
 
 -- a choice has what both of its parts have
 either : {X : Type 0} (P : X → Type 0) (b : Bool) (x y : X) → P x → P y → P (if b then x else y)

@@ -1,4 +1,4 @@
--- A call that took a lock and let it go has placed one call, and leaves its pass ready for the next one.
+-- A call that took a lock and released it has placed one call, and leaves its pass ready for the next one.
 use Rattle.std.proofs.Common.{◌≡◌, ◌≢◌, ◌*◌, ◌≤◌, ℕ, List, [], ◌∷◌, ◌++◌, refl, sym, ap, ◌∙◌, subst, arith, length, length-append, mul-le-mul_left, None}
 use Rattle.jo_value.specs.declared.capacities.TheConstants.{UNSTAMPED}
 use Rattle.jo_value.specs.declared.limits.TheConstants.{MOST_NEED}
@@ -26,14 +26,14 @@ use Rattle.jo_rule.proofs.Heaps.{formed-after}
 use Rattle.jo_rule.proofs.Histories.{begins_through}
 use Rattle.jo_steps.specs.Holding.{lock_of}
 use Rattle.jo_steps.specs.Views.{HeapView, HeldView, IsPassOf, PassView}
-use Rattle.jo_guard.specs.Leaving.{HasLetGo, placed_by, recorded_by}
+use Rattle.jo_guard.specs.Releasing.{HasReleased, placed_by, recorded_by}
 use Rattle.jo_guard.specs.Placing.{HasPlaced, made_by}
 use Rattle.jo_guard.specs.Ready.{IsReady}
 use Rattle.jo_guard.proofs.Calls.{reply_fits, reply_makes, reply_valid}
 use Rattle.jo_guard.proofs.Holding.{IsHolding, content_formed, content_valid, more_seen, same_changes}
 use Rattle.jo_guard.proofs.Waiting.{kept_longer}
 
-module _ {P : ℕ} {o : ObjId} {held : HeldView} {v u w : View} {event : Event} {own : Storage} (h : IsHolding P o held v u) (r : HasLetGo P event own u w) where
+module _ {P : ℕ} {o : ObjId} {held : HeldView} {v u w : View} {event : Event} {own : Storage} (h : IsHolding P o held v u) (r : HasReleased P event own u w) where
   -- the holder has seen what it had seen, and the whole log at the end
   seen_longer : Begins w.past.seen u.past.seen
   seen_longer = begins_through u.past.seen r.log w.past.seen (recorded_by u.number event (lock_of u).content, r.seen) r.more
@@ -96,7 +96,7 @@ module _ {P : ℕ} {o : ObjId} {held : HeldView} {v u w : View} {event : Event} 
 
 module _ {P : ℕ} {o : ObjId} {held : HeldView} {v u w : View} {own : Storage} (h : IsHolding P o held v u) where
   -- a call was placed with the reply that the object, as the holder knew it, gives
-  pub finished_place : (c : Call) (answer : Reply) → HasLetGo P (Place c) own u w → object_reply c (lock_of u).content ≡ answer → HasPlaced P c answer v w
+  pub finished_place : (c : Call) (answer : Reply) → HasReleased P (Place c) own u w → object_reply c (lock_of u).content ≡ answer → HasPlaced P c answer v w
   finished_place c answer r is =
       let z : Object = (lock_of u).content in
       let valid : IsValidObject (after P w.past.seen) z = object_kept (after P u.past.seen) (after P w.past.seen) (kept_longer P w.past.seen u.past.seen (seen_longer h r)) z (content_valid h) in
@@ -104,12 +104,12 @@ module _ {P : ℕ} {o : ObjId} {held : HeldView} {v u w : View} {own : Storage} 
       subst (λ (a : Reply). HasPlaced P c a v w) is (placed_since h r c (object_reply c z) (λ place. refl) (reply_valid (after P w.past.seen) c z valid) fits (reply_makes c z))
 
   -- a call was refused
-  pub finished_refuse : (c : Call) (spent : Spent) (made : ℕ) → HasLetGo P (Refuse c spent) own u w → IsLawfulSpent made c (reply.Spent spent) → HasPlaced P c (reply.Spent spent) v w
+  pub finished_refuse : (c : Call) (spent : Spent) (made : ℕ) → HasReleased P (Refuse c spent) own u w → IsLawfulSpent made c (reply.Spent spent) → HasPlaced P c (reply.Spent spent) v w
   finished_refuse c spent made r lawful = placed_since h r c (reply.Spent spent) (λ place. refl) tt (spent_fits made c (reply.Spent spent) lawful) refl
 
 module _ {h : HeapView} {p q : PassView} {o : ObjId} {held : HeldView} {u : View} {event : Event} {own : Storage} where
   -- the pass is ready again, where its changes cover the storage used
-  pub ready_again : IsReady h p → IsPassOf h q → IsHolding h.passes o held p.view u → HasLetGo h.passes event own u q.view
+  pub ready_again : IsReady h p → IsPassOf h q → IsHolding h.passes o held p.view u → HasReleased h.passes event own u q.view
       → own.used ≤ MOST_NEED * own_changes h.passes q.view → IsReady h q
   ready_again ready pass k r covered = record {
     of_heap = pass;
@@ -119,7 +119,7 @@ module _ {h : HeapView} {p q : PassView} {o : ObjId} {held : HeldView} {u : View
   }
 
   -- as where no more is used than before
-  pub ready_still : IsReady h p → IsPassOf h q → IsHolding h.passes o held p.view u → HasLetGo h.passes event own u q.view
+  pub ready_still : IsReady h p → IsPassOf h q → IsHolding h.passes o held p.view u → HasReleased h.passes event own u q.view
       → own.used ≡ p.view.storage.used → IsReady h q
   ready_still ready pass k r same =
       let t = ready.tidy in ready_again ready pass k r (omega (arith, t.storage, mul-le-mul_left MOST_NEED (more_changes k r)))

@@ -1,4 +1,4 @@
--- What the holder of a lock knows, from when it was taken until it is let go.
+-- What the holder of a lock knows, from when it was taken until it is released.
 use Rattle.std.proofs.Common.{◌≡◌, ℕ, sym, ap, ◌∙◌, subst, List, Option, Some}
 use Rattle.jo_value.specs.declared.value.ObjId.{ObjId}
 use Rattle.jo_value.specs.declared.value.Value.{Value}
@@ -20,14 +20,14 @@ use Rattle.jo_rule.specs.Contents.{HasWords}
 use Rattle.jo_rule.specs.Events.{IsEventOn, MayPlace, StoresWords, object_called}
 use Rattle.jo_rule.specs.Histories.{Begins}
 use Rattle.jo_rule.specs.Marks.{Mark}
-use Rattle.jo_rule.specs.Steps.{MayLetGo}
+use Rattle.jo_rule.specs.Steps.{MayRelease}
 use Rattle.jo_rule.specs.Tidy.{own_changes}
 use Rattle.jo_rule.specs.Views.{View, Lock, Storage}
 use Rattle.jo_rule.proofs.Heaps.{formed-after}
 use Rattle.jo_steps.specs.Holding.{lock_of, HasBlockOf, HoldsLock}
 use Rattle.jo_steps.specs.Views.{HeldView}
-use Rattle.jo_guard.specs.Guarding.{HasTaken}
-use Rattle.jo_guard.specs.Leaving.{OnlyHeld}
+use Rattle.jo_guard.specs.Locking.{HasLocked}
+use Rattle.jo_guard.specs.Releasing.{OnlyHeld}
 use Rattle.jo_guard.proofs.Waiting.{kept_longer}
 
 -- a value that is valid after a log is in range
@@ -70,14 +70,14 @@ stored_block v u z only b = subst (λ (w : View). HasBlockOf w z) (sym only) (re
 -- from when it was taken.
 pub record IsHolding (passes : ℕ) (o : ObjId) (held : HeldView) (v u : View) : Type 0 where
   pub before : View
-  pub taken : HasTaken passes o held v before
+  pub taken : HasLocked passes o held v before
   pub holds : HoldsLock passes u held
   pub only : OnlyHeld before u
 
 same_block : (v : View) → v.lock ≡ Some (lock_of v) → OnlyHeld v v
 same_block v e = ap (λ (l : Option Lock). record v { lock = l }) e
 
-pub holding_taken : (P : ℕ) (o : ObjId) (held : HeldView) (v u : View) → HasTaken P o held v u → IsHolding P o held v u
+pub holding_taken : (P : ℕ) (o : ObjId) (held : HeldView) (v u : View) → HasLocked P o held v u → IsHolding P o held v u
 holding_taken P o held v u t = record { before = u; taken = t; holds = t.holds; only = same_block u t.holds.lock }
 
 pub holding_stored : (P : ℕ) (o : ObjId) (held : HeldView) (v u w : View) → OnlyStored u w → IsHolding P o held v u → IsHolding P o held v w
@@ -131,8 +131,8 @@ module _ {P : ℕ} {o : ObjId} {held : HeldView} {v u : View} (h : IsHolding P o
 
   -- ---- what it may do
 
-  may_let_go : (event : Event) → IsEventOn o event → MayPlace P u event → MayLetGo P u (lock_of u) event
-  may_let_go event on may = record {
+  may_release : (event : Event) → IsEventOn o event → MayPlace P u event → MayRelease P u (lock_of u) event
+  may_release event on may = record {
     held = h.holds.lock;
     kind = ap (λ (c : Cell). c.kind) h.holds.cell ∙ h.holds.kind;
     on = subst (λ (x : ObjId). IsEventOn x event) (sym object_is) on;
@@ -143,15 +143,15 @@ module _ {P : ℕ} {o : ObjId} {held : HeldView} {v u : View} (h : IsHolding P o
   call_seen c valid = call_kept (after P v.past.seen) (after P u.past.seen) (kept_longer P u.past.seen v.past.seen more_seen) c valid
 
   -- a call on the object that is valid is placed
-  pub may_place : (c : Call) → object_called c ≡ Some o → IsValidCall (after P v.past.seen) c → StoresWords c → MayLetGo P u (lock_of u) (Place c)
-  may_place c on valid words = may_let_go (Place c) on (call_seen c valid, words)
+  pub may_place : (c : Call) → object_called c ≡ Some o → IsValidCall (after P v.past.seen) c → StoresWords c → MayRelease P u (lock_of u) (Place c)
+  may_place c on valid words = may_release (Place c) on (call_seen c valid, words)
 
-  -- or refused, where storage does not do
+  -- or refused, where storage does not suffice
   pub may_refuse : (c : Call) (spent : Spent) → object_called c ≡ Some o → IsValidCall (after P v.past.seen) c → IsLawfulSpent (own_changes P v) c (reply.Spent spent)
-      → MayLetGo P u (lock_of u) (Refuse c spent)
+      → MayRelease P u (lock_of u) (Refuse c spent)
   may_refuse c spent on valid lawful =
-      may_let_go (Refuse c spent) on (call_seen c valid, subst (λ (n : ℕ). IsLawfulSpent n c (reply.Spent spent)) (sym same_changes) lawful)
+      may_release (Refuse c spent) on (call_seen c valid, subst (λ (n : ℕ). IsLawfulSpent n c (reply.Spent spent)) (sym same_changes) lawful)
 
 -- when it was taken, the block has the content
-pub taken_block : (P : ℕ) (o : ObjId) (held : HeldView) (v u : View) → HasTaken P o held v u → HasBlockOf u (lock_of u).content
+pub taken_block : (P : ℕ) (o : ObjId) (held : HeldView) (v u : View) → HasLocked P o held v u → HasBlockOf u (lock_of u).content
 taken_block P o held v u t = record { properties = t.taken.properties; words = t.taken.words; formed = t.taken.formed }

@@ -1,5 +1,5 @@
 pub mod Calls
-pub mod Letting
+pub mod Releases
 pub mod Waiting
 pub mod Holding
 pub mod Finishing

@@ -12,18 +12,18 @@ use Rattle.jo_model.proofs.ValidBirths.{KeepsBorn}
 use Rattle.jo_rule.specs.declared.counts.Counts.{Counts}
 use Rattle.jo_rule.specs.declared.event.Event.TheVariants.{Nothing}
 use Rattle.jo_rule.specs.Histories.{Begins}
-use Rattle.jo_rule.specs.Locks.{IsTaken}
+use Rattle.jo_rule.specs.Locks.{IsUnderLock}
 use Rattle.jo_rule.specs.Marks.{Mark}
-use Rattle.jo_rule.specs.Steps.{locking, losing, no_sight, placing}
+use Rattle.jo_rule.specs.Steps.{with_taken_lock, with_lost_try, no_sight, with_placed}
 use Rattle.jo_rule.specs.Tidy.{own_changes}
 use Rattle.jo_rule.specs.Views.{View, Lock, Try}
 use Rattle.jo_rule.proofs.Heaps.{born-longer}
 use Rattle.jo_rule.proofs.Histories.{begins_itself, begins_through}
 use Rattle.jo_steps.specs.Counting.{one_load, one_lock}
 use Rattle.jo_steps.specs.Holding.{lock_of}
-use Rattle.jo_steps.specs.Telling.{Locked, Looked}
+use Rattle.jo_steps.specs.Effects.{Locked, Looked}
 use Rattle.jo_steps.specs.Views.{HeldView}
-use Rattle.jo_guard.specs.Guarding.{HasTaken, OnlyLock}
+use Rattle.jo_guard.specs.Locking.{HasLocked, OnlyLock}
 use Rattle.jo_guard.specs.Placing.{IsTryOfDictionary, TriesDictionaries}
 
 -- ---- what stays where more of the log is seen
@@ -67,7 +67,7 @@ waited_none P v = record { seen = begins_itself v.past.seen; tries = tried_none 
 -- a cell was loaded
 pub waited_looked : (P : ℕ) (v u w : View) → HasWaited P v u → Looked P Nothing u w → HasWaited P v w
 waited_looked P v u w h r =
-    let next : View = placing P u Nothing r.log (one_load u.counts) in
+    let next : View = with_placed P u Nothing r.log (one_load u.counts) in
     let same : own_changes P next ≡ own_changes P u = subst (λ (x : View). own_changes P x ≡ own_changes P u) r.view r.changes in
     subst (HasWaited P v) (sym r.view) (record {
       seen = begins_through v.past.seen u.past.seen r.log r.more h.seen;
@@ -76,10 +76,10 @@ waited_looked P v u w h r =
       only = ap (λ (x : View). record x { past = record x.past { seen = r.log }; counts = one_load u.counts }) h.only;
     })
 
-waited_lost : (P : ℕ) (v u w : View) (o : ObjId) (seen : Cell) (counts : Counts) → HasWaited P v u → seen.kind ≡ Dictionary → w ≡ losing u o seen counts → HasWaited P v w
+waited_lost : (P : ℕ) (v u w : View) (o : ObjId) (seen : Cell) (counts : Counts) → HasWaited P v u → seen.kind ≡ Dictionary → w ≡ with_lost_try u o seen counts → HasWaited P v w
 waited_lost P v u w o seen counts h kind e =
     let calls : u.past.calls ≡ v.past.calls = ap (λ (x : View). x.past.calls) h.only in
-    let next : View = losing u o seen counts in
+    let next : View = with_lost_try u o seen counts in
     subst (HasWaited P v) (sym e) (record {
       seen = h.seen;
       tries = tried_one v u next o seen calls kind refl h.tries;
@@ -89,7 +89,7 @@ waited_lost P v u w o seen counts h kind e =
 
 -- a lock was tried, and not taken
 pub waited_tried : (P : ℕ) (v u w : View) (o : ObjId) (seen : Cell) (counts : Counts) (locked : Bool) → HasWaited P v u → seen.kind ≡ Dictionary
-    → seen.locked ≡ locked → (seen.locked ≡ true → w ≡ u) → (seen.locked ≡ false → w ≡ losing u o seen counts) → HasWaited P v w
+    → seen.locked ≡ locked → (seen.locked ≡ true → w ≡ u) → (seen.locked ≡ false → w ≡ with_lost_try u o seen counts) → HasWaited P v w
 waited_tried P v u w o seen counts true h kind e same lost = subst (HasWaited P v) (sym (same e)) h
 waited_tried P v u w o seen counts false h kind e same lost = waited_lost P v u w o seen counts h kind (lost e)
 
@@ -103,16 +103,16 @@ waited_free P v u h free = ap (λ (x : View). x.lock) h.only ∙ free
 
 -- ---- the lock
 
-pub waited_locked : (P : ℕ) (v u w : View) (o : ObjId) (held : HeldView) → HasWaited P v u → held.object ≡ o → Locked P held u w → HasTaken P o held v w
+pub waited_locked : (P : ℕ) (v u w : View) (o : ObjId) (held : HeldView) → HasWaited P v u → held.object ≡ o → Locked P held u w → HasLocked P o held v w
 waited_locked P v u w o held h object r =
     let calls : u.past.calls ≡ v.past.calls = ap (λ (x : View). x.past.calls) h.only in
-    let next : View = locking u r.log r.lock held.cell (one_lock u.counts) in
+    let next : View = with_taken_lock u r.log r.lock held.cell (one_lock u.counts) in
     let seen_is : w.past.seen ≡ r.log = ap (λ (x : View). x.past.seen) r.view in
     let lock_is : lock_of w ≡ r.lock = ap lock_of r.view in
     record {
       object = object;
       holds = r.holds;
-      taken = subst (λ (x : Log Mark × ObjId × Lock). IsTaken (after P x.0) x.1 x.2.content x.2.room (slice_index x.2.block)) (λ i. (sym seen_is i, object i, sym lock_is i)) r.taken;
+      taken = subst (λ (x : Log Mark × ObjId × Lock). IsUnderLock (after P x.0) x.1 x.2.content x.2.room (slice_index x.2.block)) (λ i. (sym seen_is i, object i, sym lock_is i)) r.taken;
       seen = subst (λ (l : Log Mark). Begins l v.past.seen) (sym seen_is) (begins_through v.past.seen u.past.seen r.log r.more h.seen);
       tries = tried_one v u w r.lock.object held.cell calls r.holds.kind (ap (λ (x : View). x.tries) r.view) h.tries;
       changes = r.changes ∙ h.changes;

@@ -1,4 +1,6 @@
+-- To be believed by whoever makes calls: Ready and Placing. The others serve: Locking and Releasing are what is known
+-- while a lock is held, for whoever builds calls of them.
 pub mod Ready
 pub mod Placing
-pub mod Guarding
-pub mod Leaving
+pub mod Locking
+pub mod Releasing

@@ -11,7 +11,7 @@ use Rattle.jo_rule.specs.Histories.{Begins}
 use Rattle.jo_rule.specs.Views.{View, Try}
 use Rattle.jo_rule.specs.Events.{placed}
 
--- a try of a lock during the call that comes after so many, which expected the cell of a dictionary
+-- a try of a lock during the call that comes after `calls` others, which expected the cell of a dictionary
 pub record IsTryOfDictionary (calls : ℕ) (t : Try) : Type 0 where
   pub call : t.call ≡ calls
   pub kind : t.expected.kind ≡ Dictionary

@@ -1,8 +1,8 @@
-//! Locks: one is tried, waited for, and let go.
+//! Locks: one is tried, waited for, and released.
 #![tactic(auto)]
 
-mod leaving;
-mod taking;
+mod locking;
+mod releasing;
 
-pub use leaving::{let_go, let_go_moved};
-pub use taking::{try_lock, wait_for_lock};
+pub use locking::{try_lock, wait_for_lock};
+pub use releasing::{release, release_moved};

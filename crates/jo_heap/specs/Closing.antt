@@ -9,7 +9,7 @@ use Rattle.jo_rule.specs.declared.counts.Counts.{Counts}
 use Rattle.jo_rule.specs.Views.{View, Kept, Try}
 use Rattle.jo_rule.specs.Ending.{all_calls}
 
--- how many passes there were, and what the first one knew at the end, which had taken in each other
+-- how many passes there were, and what the first one knew at the end, which had joined all others into itself
 pub record ClosedHeap : Type 0 where
   pub passes : ℕ
   pub view : View
@@ -34,7 +34,7 @@ abbrev pub kept_tries : List Kept → ℕ → List Try
 kept_tries [] t = []
 kept_tries (q ∷ kept) t = if q.number == t then q.tries else kept_tries kept t
 
--- those of the pass t, by the view that has taken in each other
+-- those of the pass t, by the view into which all others were joined
 abbrev pub counts_of_pass : View → ℕ → Counts
 counts_of_pass v t = if v.number == t then v.counts else kept_counts v.kept t
 

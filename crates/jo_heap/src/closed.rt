@@ -14,8 +14,8 @@ use jo_steps::{Heap, Pass};
 use jo_value::{MOST_OBJECTS, NameId, ObjId, Value};
 use std::marker::Model;
 
-/// What a heap left when it was closed. Contracts see how many passes it had, and what the first one knew, which had taken in
-/// each other: the history that it had seen, and the calls, counts and tries of all passes.
+/// What a heap left when it was closed. Contracts see how many passes it had, and what the first one knew, which had
+/// joined all others into itself: the history that it had seen, and the calls, counts and tries of all passes.
 #[derive(Drop)]
 pub struct Closed {
     words: NamedWords,
@@ -34,7 +34,7 @@ impl Model for Closed {
     ghost invariant = { λ c. HasEnded c.words.passes (words_of c.words.passes c.words.words) c.words.view × (c.words.view.flat ≡ false) };
 }
 
-/// Ends a heap whose first pass has taken in each other.
+/// Ends a heap whose first pass has joined all others into itself.
 pub fn close(heap: Heap, pass: Pass) -> Closed
     requires pass { IsPassOf heap pass }
     requires joined { HasJoinedAll pass.view }

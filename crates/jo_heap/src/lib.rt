@@ -3,9 +3,9 @@
 
 mod block;
 mod closed;
+mod initial;
 mod named_words;
 mod open;
-mod words;
 
 pub use closed::{Closed, close};
 pub use open::{join, open_heap};

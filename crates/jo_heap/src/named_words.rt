@@ -30,7 +30,7 @@ impl Model for NamedWords {
 }
 
 impl NamedWords {
-    /// Ends a heap whose first pass has taken in each other.
+    /// Ends a heap whose first pass has joined all others into itself.
     pub(crate) fn of(heap: Heap, pass: Pass) -> NamedWords
         requires pass { IsPassOf heap pass }
         requires joined { HasJoinedAll pass.view }

@@ -7,13 +7,13 @@ ghost use Rattle.jo_rule.specs.Steps.{joined, opening_view};
 ghost use Rattle.jo_steps.specs.Views.{AreNoStamps, IsPassOf};
 ghost use Rattle.jo_heap.specs.Opening.{AreOpened};
 
-use crate::words::opening_words;
+use crate::initial::opening_words;
 use jo_steps::{Heap, Pass, make_heap};
 use jo_value::STAMP_WORDS;
 use std::alloc::{AllocError, Global};
 
-/// A new heap for so many scripts, and its passes: the first one, and one for each script, in order of number. The shared
-/// object is there, empty, and nothing was called. No later call takes memory.
+/// A new heap for `scripts` scripts, and its passes: the first one, and one for each script, in order of number. The
+/// shared object is there, empty, and nothing was called. No later call takes memory.
 pub fn open_heap(alloc: Global, scripts: u32) -> Result<(Heap, Vec<Pass>), AllocError>
     requires { (1 ≤ scripts) × (scripts ≤ MOST_SCRIPTS) }
     ensures passes { IfOk result (λ r. r.0.passes ≡ scripts + 1) }
@@ -52,7 +52,7 @@ fn no_stamps(alloc: Global) -> Result<Vec<u64>, AllocError>
     vec![in alloc; 0; STAMP_WORDS]
 }
 
-// The stamps of so many passes.
+// The stamps of `count` passes.
 fn stamps_of(alloc: Global, count: u32) -> Result<Vec<Vec<u64>>, AllocError>
     ensures all { IfOk result (λ stamps. length stamps.items ≡ count) }
     ensures each { IfOk result (λ stamps. All (λ own. AreNoStamps own.items) stamps.items) }
@@ -64,8 +64,8 @@ fn stamps_of(alloc: Global, count: u32) -> Result<Vec<Vec<u64>>, AllocError>
     Ok(stamps)
 }
 
-/// A pass takes in another that holds no lock. It has then seen the longer of what the two have seen, and keeps the calls,
-/// counts and tries of the other, and all that that one kept.
+/// A pass joins into itself another that holds no lock. It has then seen the longer of what the two have seen, and
+/// keeps the calls, counts and tries of the other, and all that that one kept.
 pub fn join(heap: &Heap, into: &mut Pass, from: Pass)
     requires passes { IsPassOf heap.now into.old × IsPassOf heap.now from }
     requires free { from.view.lock ≡ None }

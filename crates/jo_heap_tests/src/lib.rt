@@ -1,7 +1,13 @@
-//! Tests of keys and of calls on the slow heap, apart, so that each crate is proved once.
+//! Tests of calls on the shared heap, apart, so that each crate is proved once.
 #![tactic(auto)]
 
 #[cfg(test)]
+mod asks;
+#[cfg(test)]
 mod calls;
 #[cfg(test)]
-mod keys;
+mod held;
+#[cfg(test)]
+mod side_by_side;
+#[cfg(test)]
+mod two_scripts;

@@ -5,8 +5,8 @@ use Rattle.std.proofs.lemmas.Slice.Eq.{bytes_eq-Decides}
 use Rattle.std.specs.List.{find, list_any, list_all}
 use Rattle.std.specs.Option.{option_map}
 use Rattle.std.specs.Str.{bytes_eq}
-use Rattle.jo_tree.specs.declared.keyword.Keyword.{Keyword}
-use Rattle.jo_tree.specs.Words.{keyword_of}
+use Rattle.jo_parse_tree.specs.declared.keyword.Keyword.{Keyword}
+use Rattle.jo_parse_tree.specs.Words.{keyword_of}
 use Rattle.jo_lex.specs.inner.Views.{ReservedRow, rows_of, reserved_rows}
 use Rattle.jo_lex.specs.Words.{reserved_words, is_reserved, reserved_as}
 

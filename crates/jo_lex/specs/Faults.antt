@@ -4,7 +4,7 @@ use Rattle.jo_lex.specs.declared.refusal.Refusal.{Refusal}
 use Rattle.jo_lex.specs.declared.refusal.ParseFault.{ParseFault}
 use Rattle.jo_lex.specs.declared.refusal.ParseFault.TheVariants.{Memory, Refused}
 
--- want of memory, or a refusal of which this holds
+-- Memory, or a refusal of which this holds
 abbrev pub IsMemoryOr : (Refusal → Type 0) → ParseFault → Type 0
 IsMemoryOr P Memory = Unit {0}
 IsMemoryOr P (Refused refusal) = P refusal

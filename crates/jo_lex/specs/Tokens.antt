@@ -3,7 +3,7 @@ use Rattle.std.specs.Prelude.{◌≡◌, ℕ, zero, suc, ◌+◌, ◌-◌, ◌&&
 use Rattle.jo_value.specs.Texts.{Table, id_in, interned}
 use Rattle.jo_value.specs.declared.value.TextId.{TextId}
 use Rattle.jo_value.specs.declared.limits.TheConstants.{MOST_TEXTS}
-use Rattle.jo_tree.specs.declared.keyword.Keyword.{Keyword}
+use Rattle.jo_parse_tree.specs.declared.keyword.Keyword.{Keyword}
 use Rattle.jo_lex.specs.declared.token.Token.{Token}
 use Rattle.jo_lex.specs.declared.token.TokenKind.{TokenKind}
 use Rattle.jo_lex.specs.declared.token.TokenKind.TheVariants as kind
@@ -84,7 +84,7 @@ going_on go s ended = s
 going_on go s (refused k) = s
 going_on go s (onward t) = go t
 
--- the progress after so many pieces, or where nothing goes on
+-- the progress after n pieces, or where nothing goes on
 unfoldable pub reached : ℕ → Progress → Progress
 reached zero s = s
 reached (suc n) s = going_on (reached n) s (next s)
@@ -119,7 +119,7 @@ pub record StopsAt (s : Progress) (refusal : Refusal) (table : Table) : Type 0 w
 abbrev pub IsReached : Progress → Table → Type 0
 IsReached s table = (n : ℕ) × (table ≡ (reached n s).table)
 
--- what is known after want of memory, and after a refusal
+-- what is known where the fault is Memory, and where it is a refusal
 abbrev pub Fails : Progress → Table → ParseFault → Type 0
 Fails s table Memory = IsReached s table
 Fails s table (Refused r) = StopsAt s r table

@@ -3,8 +3,8 @@ use Prim.Native.String.{String}
 use Rattle.std.specs.Prelude.{ℕ, Bool, List, [], ◌∷◌, ◌++◌, map, codes, Option, Some, None, if◌then◌else◌}
 use Rattle.std.specs.List.{list_any}
 use Rattle.std.specs.Str.{bytes_eq}
-use Rattle.jo_tree.specs.declared.keyword.Keyword.{Keyword}
-use Rattle.jo_tree.specs.Words.{keyword_of}
+use Rattle.jo_parse_tree.specs.declared.keyword.Keyword.{Keyword}
+use Rattle.jo_parse_tree.specs.Words.{keyword_of}
 
 -- those of ECMA-262 (Keywords and Reserved Words, ReservedWord)
 abbrev pub reserved_anywhere : List String

@@ -9,7 +9,7 @@ use crate::character::first_of;
 use crate::piece::{Lexeme, Piece, piece_at};
 use crate::reserved::reserved;
 use crate::{ParseFault, Refusal, RefusalKind, Token, TokenKind};
-use jo_tree::Keyword;
+use jo_parse_tree::Keyword;
 use jo_value::{InternFault, TextId, Texts};
 use std::alloc::Global;
 

@@ -6,7 +6,7 @@ ghost use Rattle.std.specs.Str.{bytes_eq};
 ghost use Rattle.jo_lex.specs.Words.{reserved_as};
 ghost use Rattle.jo_lex.specs.inner.Views.{rows_of, reserved_rows};
 
-use jo_tree::Keyword;
+use jo_parse_tree::Keyword;
 
 // A reserved word, and its keyword where the grammar names it.
 type Row = (&'static str, Option<Keyword>);

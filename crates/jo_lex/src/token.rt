@@ -1,7 +1,7 @@
 // The tokens of a script.
 
 use crate::Punct;
-use jo_tree::Keyword;
+use jo_parse_tree::Keyword;
 use jo_value::TextId;
 
 /// What a token is. Words and text literals are named by their ids in the table of texts, a keyword by itself.

@@ -1,7 +1,7 @@
 -- The sets of scripts that are made by number.
 use Rattle.std.specs.Prelude.{ℕ, ◌+◌, ◌*◌, ◌%◌, zero, suc, List, [], ◌++◌, codes, decimal}
 
--- the number that is drawn after this one, and the one after so many draws
+-- the number that is drawn after this one, and the one after n draws
 abbrev pub next_draw : ℕ → ℕ
 next_draw x = (37 * x + 11) % 1009
 
@@ -35,7 +35,7 @@ made_script t x =
     ++ put_line t 0 (draw 1 x) ++ put_line t 1 (draw 2 x) ++ put_line t 2 (draw 3 x) ++ put_line t 3 (draw 4 x)
     ++ loop_head (draw 5 x) ++ loop_tail t ++ delete_line t ++ put_line t 0 (draw 6 x) ++ codes "print(a.c);\n"
 
--- so many more scripts, from script t on, each after a separator
+-- `count` more scripts, from script t on, each after a separator
 abbrev pub more_scripts : ℕ → ℕ → ℕ → List ℕ
 more_scripts zero t x = []
 more_scripts (suc count) t x = codes "%%\n" ++ made_script t x ++ more_scripts count (t + 1) (draw 6 x)

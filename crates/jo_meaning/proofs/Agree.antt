@@ -7,11 +7,11 @@ use Rattle.jo_value.specs.declared.value.ObjId.{ObjId}
 use Rattle.jo_value.specs.declared.value.Value.{Value}
 use Rattle.jo_value.specs.declared.value.Value.TheVariants as value
 use Rattle.jo_value.specs.Texts.{Table}
-use Rattle.jo_tree.specs.declared.operator.AssignOperator.{AssignOperator}
-use Rattle.jo_tree.specs.declared.operator.AssignOperator.TheVariants as assign_op
-use Rattle.jo_tree.specs.declared.operator.BinaryOperator.{BinaryOperator}
-use Rattle.jo_tree.specs.declared.operator.BinaryOperator.TheVariants as binary
-use Rattle.jo_tree.specs.Trees.{Tree, number, literal, constant, variable, group, object, cas, member, unary, delete, chain, choose, assign, Props, no_props, prop, Accesses, no_accesses, field, index, Links, no_links, link, Binding, Head, declares, begins, Statement, empty, block, when, either, while, for, break, continue, print, print_names, evaluate, Items, no_items, declare, perform}
+use Rattle.jo_parse_tree.specs.declared.operator.AssignOperator.{AssignOperator}
+use Rattle.jo_parse_tree.specs.declared.operator.AssignOperator.TheVariants as assign_op
+use Rattle.jo_parse_tree.specs.declared.operator.BinaryOperator.{BinaryOperator}
+use Rattle.jo_parse_tree.specs.declared.operator.BinaryOperator.TheVariants as binary
+use Rattle.jo_parse_tree.specs.Trees.{Tree, number, literal, constant, variable, group, object, cas, member, unary, delete, chain, choose, assign, Props, no_props, prop, Accesses, no_accesses, field, index, Links, no_links, link, Binding, Head, declares, begins, Statement, empty, block, when, either, while, for, break, continue, print, print_names, evaluate, Items, no_items, declare, perform}
 use Rattle.jo_model.specs.declared.call.Call.{Call}
 use Rattle.jo_model.specs.declared.call.Call.TheVariants as call
 use Rattle.jo_model.specs.declared.call.Outcome.{Outcome}
@@ -26,7 +26,7 @@ use Rattle.jo_meaning.specs.Keys.{key_in, name_value, prop_value}
 use Rattle.jo_value.specs.declared.limits.TheConstants.{MOST_LINE_BYTES}
 use Rattle.jo_meaning.specs.Printed.{line_of_names, prints}
 use Rattle.jo_meaning.specs.Expressions.{Giving, constant_value, Reference, plain, named, property, on_property, get_value, put_value, deletes, adjusts, assigns, operates, evaluates, refers, reaches, fills, operates_each, evaluates_each}
-use Rattle.jo_tree.specs.Blocks.{declared_in, declared_by}
+use Rattle.jo_parse_tree.specs.Blocks.{declared_in, declared_by}
 use Rattle.jo_meaning.specs.Statements.{evaluates_or, steps, binds, starts, repeats, loops, loops_for, executes, executes_all}
 
 -- two ways to go on agree where the number of turns that are left is one of these
@@ -36,7 +36,7 @@ pub record Agree (P : ℕ → Type 0) (k k' : Next) : Type 0 where
 pub same : (P : ℕ → Type 0) (k : Next) → Agree P k k
 same P k = record { by = λ s le. refl }
 
--- so many turns at most
+-- at most n turns
 abbrev pub AtMost : ℕ → ℕ → Type 0
 AtMost n m = m ≤ n
 
@@ -200,7 +200,7 @@ module _ (texts : Table) where
   agree_starts environment (declares bindings) P k k' h = agree_binds environment bindings P k k' h
   agree_starts environment (begins e) P k k' h = agree_steps environment e P k k' h
 
-  -- what has three ways to go on keeps it where they agree up to so many turns
+  -- what has three ways to go on keeps it where they agree up to n turns
   abbrev pub KeepsThree : (Next → Next → Next → Next) → Type 0
   KeepsThree f =
       (n : ℕ) (k k' b b' c c' : Next) → Agree (AtMost n) k k' → Agree (AtMost n) b b' → Agree (AtMost n) c c' → Agree (AtMost n) (f k b c) (f k' b' c')

@@ -1,9 +1,9 @@
 -- The rule on names is the same where a script is judged and where it means something.
 use Rattle.std.proofs.Common.{refl, sym, true≢false, subst, ◌∙◌, arith}
 use Rattle.std.specs.Prelude.{◌≡◌, ℕ, ◌==◌, ◌≤◌, ◌<◌, Bool, true, false, ◌||◌, if◌then◌else◌, List, [], ◌∷◌, ◌++◌, length, Option, Some}
-use Rattle.jo_tree.specs.declared.word.Ident.{Ident}
-use Rattle.jo_grammar.specs.Declarations as judged
-use Rattle.jo_grammar.specs.Declarations.{Scope}
+use Rattle.jo_parse_tree.specs.declared.word.Ident.{Ident}
+use Rattle.jo_parse_grammar.specs.Declarations as judged
+use Rattle.jo_parse_grammar.specs.Declarations.{Scope}
 use Rattle.jo_meaning.specs.State.{variable_of}
 use Rattle.jo_meaning.specs.inner.Meant.{around, IsOwn, one_of, IsMeant}
 

@@ -6,12 +6,12 @@ use Rattle.jo_value.specs.declared.value.ObjId.{ObjId}
 use Rattle.jo_value.specs.declared.value.Value.{Value}
 use Rattle.jo_value.specs.declared.value.Value.TheVariants as value
 use Rattle.jo_value.specs.Texts.{Table}
-use Rattle.jo_tree.specs.declared.operator.AssignOperator.{AssignOperator}
-use Rattle.jo_tree.specs.declared.operator.AssignOperator.TheVariants as assign_op
-use Rattle.jo_tree.specs.declared.operator.BinaryOperator.{BinaryOperator}
-use Rattle.jo_tree.specs.declared.operator.BinaryOperator.TheVariants as binary
-use Rattle.jo_tree.specs.Trees.{Tree, number, literal, constant, variable, group, object, cas, member, unary, delete, chain, choose, assign, Props, no_props, prop, Accesses, no_accesses, field, index, Links, no_links, link}
-use Rattle.jo_grammar.specs.Sound.{Suits, SuitProps, SuitAccesses, SuitLinks, SuitAll}
+use Rattle.jo_parse_tree.specs.declared.operator.AssignOperator.{AssignOperator}
+use Rattle.jo_parse_tree.specs.declared.operator.AssignOperator.TheVariants as assign_op
+use Rattle.jo_parse_tree.specs.declared.operator.BinaryOperator.{BinaryOperator}
+use Rattle.jo_parse_tree.specs.declared.operator.BinaryOperator.TheVariants as binary
+use Rattle.jo_parse_tree.specs.Trees.{Tree, number, literal, constant, variable, group, object, cas, member, unary, delete, chain, choose, assign, Props, no_props, prop, Accesses, no_accesses, field, index, Links, no_links, link}
+use Rattle.jo_parse_grammar.specs.Sound.{Suits, SuitProps, SuitAccesses, SuitLinks, SuitAll}
 use Rattle.jo_model.specs.declared.call.Call.{Call}
 use Rattle.jo_model.specs.declared.call.Call.TheVariants as call
 use Rattle.jo_model.specs.declared.call.Outcome.{Outcome}

@@ -5,9 +5,9 @@ use Rattle.jo_value.specs.declared.limits.TheConstants.{MOST_LINE_BYTES}
 use Rattle.jo_value.specs.declared.value.Value.{Value}
 use Rattle.jo_value.specs.declared.value.Value.TheVariants as value
 use Rattle.jo_value.specs.Texts.{Table}
-use Rattle.jo_tree.specs.Blocks.{declared_in, declared_by}
-use Rattle.jo_tree.specs.Trees.{Tree, Binding, Head, declares, begins, Statement, empty, block, when, either, while, for, break, continue, print, print_names, evaluate, Items, no_items, declare, perform}
-use Rattle.jo_grammar.specs.Sound.{IsSound, SuitsOptional, SuitBindings, SuitsHead, SuitsStatement, SuitItems}
+use Rattle.jo_parse_tree.specs.Blocks.{declared_in, declared_by}
+use Rattle.jo_parse_tree.specs.Trees.{Tree, Binding, Head, declares, begins, Statement, empty, block, when, either, while, for, break, continue, print, print_names, evaluate, Items, no_items, declare, perform}
+use Rattle.jo_parse_grammar.specs.Sound.{IsSound, SuitsOptional, SuitBindings, SuitsHead, SuitsStatement, SuitItems}
 use Rattle.jo_model.specs.declared.call.Call.TheVariants as call
 use Rattle.jo_model.specs.declared.call.Outcome.TheVariants as outcome
 use Rattle.jo_model.specs.Heaps.{shared}

@@ -20,9 +20,9 @@ use Rattle.jo_lex.specs.Punctuators.{Row, punctuator_of}
 use Rattle.jo_lex.specs.Words.{reserved_as}
 use Rattle.jo_lex.specs.Pieces.{Lexeme, word, text, number, punctuator, Piece, gap, lexeme, fault, after_close, closed, comment, word_piece, is_escapable, with_bytes, literal_rest, text_piece, decimal, judged, number_piece, accepted, punctuator_piece, token_piece, piece}
 use Rattle.jo_lex.specs.Tokens.{Progress, Advance, ended, refused, onward, is_one_too_many, identified, word_kind, token_kind, with_token, taken, next_of, next, going_on, reached, start, IsRead}
-use Rattle.jo_tree.specs.Trees.{Items}
-use Rattle.jo_grammar.specs.Cuts.{Section, sections_of}
-use Rattle.jo_grammar.specs.Sets.{AreRead, IsAcceptedSet}
+use Rattle.jo_parse_tree.specs.Trees.{Items}
+use Rattle.jo_parse_grammar.specs.Cuts.{Section, sections_of}
+use Rattle.jo_parse_grammar.specs.Sets.{AreRead, IsAcceptedSet}
 
 -- ---- bytes without line feeds
 

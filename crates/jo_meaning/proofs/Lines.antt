@@ -9,12 +9,12 @@ use Rattle.jo_value.specs.declared.value.ObjId.{ObjId}
 use Rattle.jo_value.specs.declared.value.Value.{Value}
 use Rattle.jo_value.specs.declared.value.Value.TheVariants as value
 use Rattle.jo_value.specs.Texts.{Table}
-use Rattle.jo_tree.specs.Blocks.{declared_in, declared_by}
-use Rattle.jo_tree.specs.declared.operator.AssignOperator.{AssignOperator}
-use Rattle.jo_tree.specs.declared.operator.AssignOperator.TheVariants as assign_op
-use Rattle.jo_tree.specs.declared.operator.BinaryOperator.{BinaryOperator}
-use Rattle.jo_tree.specs.declared.operator.BinaryOperator.TheVariants as binary
-use Rattle.jo_tree.specs.Trees.{Tree, number, literal, constant, variable, group, object, cas, member, unary, delete, chain, choose, assign, Props, no_props, prop, Accesses, no_accesses, field, index, Links, no_links, link, Binding, Head, declares, begins, Statement, empty, block, when, either, while, for, break, continue, print, print_names, evaluate, Items, no_items, declare, perform}
+use Rattle.jo_parse_tree.specs.Blocks.{declared_in, declared_by}
+use Rattle.jo_parse_tree.specs.declared.operator.AssignOperator.{AssignOperator}
+use Rattle.jo_parse_tree.specs.declared.operator.AssignOperator.TheVariants as assign_op
+use Rattle.jo_parse_tree.specs.declared.operator.BinaryOperator.{BinaryOperator}
+use Rattle.jo_parse_tree.specs.declared.operator.BinaryOperator.TheVariants as binary
+use Rattle.jo_parse_tree.specs.Trees.{Tree, number, literal, constant, variable, group, object, cas, member, unary, delete, chain, choose, assign, Props, no_props, prop, Accesses, no_accesses, field, index, Links, no_links, link, Binding, Head, declares, begins, Statement, empty, block, when, either, while, for, break, continue, print, print_names, evaluate, Items, no_items, declare, perform}
 use Rattle.jo_model.specs.declared.call.Call.{Call}
 use Rattle.jo_model.specs.declared.call.Call.TheVariants as call
 use Rattle.jo_model.specs.declared.call.Outcome.{Outcome}
@@ -34,7 +34,7 @@ use Rattle.jo_meaning.specs.Scripts.{state_at_start, interaction_of, does}
 use Rattle.jo_meaning.specs.Histories.{run_in}
 use Rattle.jo_meaning.specs.Output.{stand_bytes, script_bytes}
 use Rattle.jo_model.specs.History.{History, replies_of}
-use Rattle.jo_grammar.specs.Sets.{IsAcceptedSet}
+use Rattle.jo_parse_grammar.specs.Sets.{IsAcceptedSet}
 use Rattle.jo_meaning.proofs.LineFeeds.{IsOneLine, AreOneLine, are_one_line-push, no_line_feeds}
 use Rattle.jo_meaning.proofs.Headed.{headed_lines}
 use Rattle.jo_meaning.proofs.OneLine.{line_of_is_one_line, line_of_names_is_one_line}

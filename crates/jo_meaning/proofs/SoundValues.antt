@@ -10,13 +10,13 @@ use Rattle.jo_value.specs.declared.value.Value.{Value}
 use Rattle.jo_value.specs.declared.value.Value.TheVariants as value
 use Rattle.jo_value.specs.Keys.{key_at, key_by, key_of_int, key_of_text, key_of_id, array_index}
 use Rattle.jo_value.specs.Texts.{Table}
-use Rattle.jo_tree.specs.declared.keyword.Keyword.{Keyword}
-use Rattle.jo_tree.specs.declared.keyword.Keyword.TheVariants as keyword
-use Rattle.jo_tree.specs.declared.operator.BinaryOperator.{BinaryOperator}
-use Rattle.jo_tree.specs.declared.operator.BinaryOperator.TheVariants as binary
-use Rattle.jo_tree.specs.declared.operator.UnaryOperator.{UnaryOperator}
-use Rattle.jo_tree.specs.declared.operator.UnaryOperator.TheVariants as unary_op
-use Rattle.jo_grammar.specs.Sound as script
+use Rattle.jo_parse_tree.specs.declared.keyword.Keyword.{Keyword}
+use Rattle.jo_parse_tree.specs.declared.keyword.Keyword.TheVariants as keyword
+use Rattle.jo_parse_tree.specs.declared.operator.BinaryOperator.{BinaryOperator}
+use Rattle.jo_parse_tree.specs.declared.operator.BinaryOperator.TheVariants as binary
+use Rattle.jo_parse_tree.specs.declared.operator.UnaryOperator.{UnaryOperator}
+use Rattle.jo_parse_tree.specs.declared.operator.UnaryOperator.TheVariants as unary_op
+use Rattle.jo_parse_grammar.specs.Sound as script
 use Rattle.jo_model.specs.declared.call.Reply.{Reply}
 use Rattle.jo_model.specs.declared.call.Reply.TheVariants as reply
 use Rattle.jo_model.specs.Fits.{FitsNew, FitsRead}

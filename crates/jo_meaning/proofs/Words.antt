@@ -5,14 +5,14 @@ use Rattle.jo_value.specs.declared.value.Key.TheVariants.{Name}
 use Rattle.jo_value.specs.declared.value.Value.{Value}
 use Rattle.jo_value.specs.declared.value.Value.TheVariants as value
 use Rattle.jo_value.specs.Texts.{Table}
-use Rattle.jo_tree.specs.declared.keyword.Keyword.TheVariants as kw
-use Rattle.jo_tree.specs.declared.operator.AssignOperator.TheVariants as assign_op
-use Rattle.jo_tree.specs.declared.operator.BinaryOperator.{BinaryOperator}
-use Rattle.jo_tree.specs.declared.operator.BinaryOperator.TheVariants as op
-use Rattle.jo_tree.specs.declared.operator.UnaryOperator.TheVariants as unary_op
-use Rattle.jo_tree.specs.declared.word.Ident.{Ident}
-use Rattle.jo_tree.specs.declared.word.Name.TheVariants as word
-use Rattle.jo_tree.specs.Trees.{Tree, number, literal, constant, variable, member, unary, chain, assign, no_accesses, field, index, no_links, link, Binding, Statement, print, evaluate, Items, no_items, declare, perform}
+use Rattle.jo_parse_tree.specs.declared.keyword.Keyword.TheVariants as kw
+use Rattle.jo_parse_tree.specs.declared.operator.AssignOperator.TheVariants as assign_op
+use Rattle.jo_parse_tree.specs.declared.operator.BinaryOperator.{BinaryOperator}
+use Rattle.jo_parse_tree.specs.declared.operator.BinaryOperator.TheVariants as op
+use Rattle.jo_parse_tree.specs.declared.operator.UnaryOperator.TheVariants as unary_op
+use Rattle.jo_parse_tree.specs.declared.word.Ident.{Ident}
+use Rattle.jo_parse_tree.specs.declared.word.Name.TheVariants as word
+use Rattle.jo_parse_tree.specs.Trees.{Tree, number, literal, constant, variable, member, unary, chain, assign, no_accesses, field, index, no_links, link, Binding, Statement, print, evaluate, Items, no_items, declare, perform}
 use Rattle.jo_model.specs.declared.call.Call.{Call}
 use Rattle.jo_model.specs.declared.call.Call.TheVariants as call
 use Rattle.jo_model.specs.declared.call.Outcome.{Outcome}

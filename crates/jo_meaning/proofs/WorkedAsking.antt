@@ -5,8 +5,8 @@ use Rattle.jo_value.specs.declared.value.ObjId.{ObjId}
 use Rattle.jo_value.specs.declared.value.Key.TheVariants.{Index}
 use Rattle.jo_value.specs.declared.value.Value.{Value}
 use Rattle.jo_value.specs.declared.value.Value.TheVariants as value
-use Rattle.jo_tree.specs.declared.operator.BinaryOperator.TheVariants as op
-use Rattle.jo_tree.specs.Trees.{Tree, object, cas, delete, no_props, print_names, evaluate, Items, declare}
+use Rattle.jo_parse_tree.specs.declared.operator.BinaryOperator.TheVariants as op
+use Rattle.jo_parse_tree.specs.Trees.{Tree, object, cas, delete, no_props, print_names, evaluate, Items, declare}
 use Rattle.jo_model.specs.declared.call.Call.{Call}
 use Rattle.jo_model.specs.declared.call.Call.TheVariants as call
 use Rattle.jo_model.specs.declared.call.Outcome.TheVariants as outcome

@@ -2,9 +2,9 @@
 use Rattle.std.proofs.Common.{refl}
 use Rattle.std.specs.Prelude.{◌≡◌, [], ◌∷◌, codes}
 use Rattle.std.specs.Fmt.{digits}
-use Rattle.jo_tree.specs.declared.operator.BinaryOperator.TheVariants as op
-use Rattle.jo_tree.specs.declared.operator.UnaryOperator.TheVariants as unary_op
-use Rattle.jo_tree.specs.Trees.{Tree, unary, choose, group}
+use Rattle.jo_parse_tree.specs.declared.operator.BinaryOperator.TheVariants as op
+use Rattle.jo_parse_tree.specs.declared.operator.UnaryOperator.TheVariants as unary_op
+use Rattle.jo_parse_tree.specs.Trees.{Tree, unary, choose, group}
 use Rattle.jo_model.specs.declared.call.Outcome.TheVariants as outcome
 use Rattle.jo_meaning.proofs.Words.{natural, text, null_word, undefined_word, true_word, false_word, shared_word, shared_x, shared_y, minus, two, three, sum, show, all, name, get, found, after, printing, running, done, fails, waits, x, set, with}
 

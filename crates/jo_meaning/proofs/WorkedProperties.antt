@@ -4,13 +4,13 @@ use Rattle.std.specs.Prelude.{◌≡◌, pos, negsuc, true, false, [], ◌∷◌
 use Rattle.std.specs.Fmt.{digits}
 use Rattle.jo_value.specs.declared.value.Key.TheVariants.{Index}
 use Rattle.jo_value.specs.declared.value.Value.TheVariants as value
-use Rattle.jo_tree.specs.declared.keyword.Keyword.TheVariants as kw
-use Rattle.jo_tree.specs.declared.operator.AssignOperator.TheVariants as assign_op
-use Rattle.jo_tree.specs.declared.operator.BinaryOperator.TheVariants as op
-use Rattle.jo_tree.specs.declared.operator.UnaryOperator.TheVariants as unary_op
-use Rattle.jo_tree.specs.declared.word.Name.TheVariants as word
-use Rattle.jo_tree.specs.declared.word.PropKey.TheVariants as prop_key
-use Rattle.jo_tree.specs.Trees.{Tree, group, object, cas, member, unary, delete, assign, no_props, prop, no_accesses, field, index, evaluate}
+use Rattle.jo_parse_tree.specs.declared.keyword.Keyword.TheVariants as kw
+use Rattle.jo_parse_tree.specs.declared.operator.AssignOperator.TheVariants as assign_op
+use Rattle.jo_parse_tree.specs.declared.operator.BinaryOperator.TheVariants as op
+use Rattle.jo_parse_tree.specs.declared.operator.UnaryOperator.TheVariants as unary_op
+use Rattle.jo_parse_tree.specs.declared.word.Name.TheVariants as word
+use Rattle.jo_parse_tree.specs.declared.word.PropKey.TheVariants as prop_key
+use Rattle.jo_parse_tree.specs.Trees.{Tree, group, object, cas, member, unary, delete, assign, no_props, prop, no_accesses, field, index, evaluate}
 use Rattle.jo_model.specs.declared.call.Call.TheVariants as call
 use Rattle.jo_model.specs.declared.call.Outcome.TheVariants as outcome
 use Rattle.jo_model.specs.declared.call.Reply.TheVariants as reply

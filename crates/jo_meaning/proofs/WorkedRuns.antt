@@ -5,10 +5,10 @@ use Rattle.std.specs.Fmt.{digits}
 use Rattle.jo_value.specs.declared.value.NameId.{NameId}
 use Rattle.jo_value.specs.declared.value.Value.{Value}
 use Rattle.jo_value.specs.declared.value.Value.TheVariants as value
-use Rattle.jo_tree.specs.declared.operator.BinaryOperator.TheVariants as op
-use Rattle.jo_tree.specs.declared.word.Name.TheVariants as word
-use Rattle.jo_tree.specs.declared.word.PropKey.TheVariants as prop_key
-use Rattle.jo_tree.specs.Trees.{Tree, object, cas, delete, no_props, prop, declares, while, for, print, print_names, evaluate, Items, no_items}
+use Rattle.jo_parse_tree.specs.declared.operator.BinaryOperator.TheVariants as op
+use Rattle.jo_parse_tree.specs.declared.word.Name.TheVariants as word
+use Rattle.jo_parse_tree.specs.declared.word.PropKey.TheVariants as prop_key
+use Rattle.jo_parse_tree.specs.Trees.{Tree, object, cas, delete, no_props, prop, declares, while, for, print, print_names, evaluate, Items, no_items}
 use Rattle.jo_model.specs.declared.call.Outcome.{Outcome}
 use Rattle.jo_model.specs.declared.call.Outcome.TheVariants as outcome
 use Rattle.jo_model.specs.Objects.{Object, empty_object}

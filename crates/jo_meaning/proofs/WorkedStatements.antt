@@ -3,10 +3,10 @@ use Rattle.std.proofs.Common.{refl}
 use Rattle.std.specs.Prelude.{◌≡◌, ℕ, false, List, [], ◌∷◌, ◌++◌, codes, replicate, None, Some}
 use Rattle.std.specs.Fmt.{digits}
 use Rattle.jo_value.specs.declared.value.Value.TheVariants as value
-use Rattle.jo_tree.specs.declared.operator.BinaryOperator.TheVariants as op
-use Rattle.jo_tree.specs.declared.word.Name.TheVariants as word
-use Rattle.jo_tree.specs.declared.word.PropKey.TheVariants as prop_key
-use Rattle.jo_tree.specs.Trees.{object, no_props, prop, declares, begins, Statement, empty, block, when, either, while, for, break, continue, print, print_names, evaluate, Items, no_items, declare, perform}
+use Rattle.jo_parse_tree.specs.declared.operator.BinaryOperator.TheVariants as op
+use Rattle.jo_parse_tree.specs.declared.word.Name.TheVariants as word
+use Rattle.jo_parse_tree.specs.declared.word.PropKey.TheVariants as prop_key
+use Rattle.jo_parse_tree.specs.Trees.{object, no_props, prop, declares, begins, Statement, empty, block, when, either, while, for, break, continue, print, print_names, evaluate, Items, no_items, declare, perform}
 use Rattle.jo_model.specs.declared.call.Call.TheVariants as call
 use Rattle.jo_model.specs.declared.call.Outcome.TheVariants as outcome
 use Rattle.jo_model.specs.declared.call.Reply.{Reply}
@@ -228,7 +228,7 @@ a_reply_of_another_kind_has_no_names = refl
 pub names_of_no_object_are_a_type_fault : after (all (print_names (natural 1) ∷ [])) [] ≡ fails outcome.TypeFault []
 names_of_no_object_are_a_type_fault = refl
 
--- what a statement does where so many bytes were printed, at these replies
+-- what a statement does where n bytes were printed, at these replies
 abbrev after_printing : ℕ → Statement → List Reply → Run
 after_printing n statement replies =
     follow (executes texts [] statement (ends outcome.Done) (ends outcome.Done) (ends outcome.Done)

@@ -5,13 +5,13 @@ use Rattle.jo_value.specs.declared.value.ObjId.{ObjId}
 use Rattle.jo_value.specs.declared.value.Value.{Value}
 use Rattle.jo_value.specs.declared.value.Value.TheVariants as value
 use Rattle.jo_value.specs.Texts.{Table}
-use Rattle.jo_tree.specs.declared.keyword.Keyword.{Keyword}
-use Rattle.jo_tree.specs.declared.keyword.Keyword.TheVariants as keyword
-use Rattle.jo_tree.specs.declared.operator.AssignOperator.{AssignOperator}
-use Rattle.jo_tree.specs.declared.operator.AssignOperator.TheVariants as assign_op
-use Rattle.jo_tree.specs.declared.operator.BinaryOperator.{BinaryOperator}
-use Rattle.jo_tree.specs.declared.operator.BinaryOperator.TheVariants as binary
-use Rattle.jo_tree.specs.Trees.{Tree, number, literal, constant, variable, group, object, cas, member, unary, delete, chain, choose, assign, Props, no_props, prop, Accesses, no_accesses, field, index, Links, no_links, link}
+use Rattle.jo_parse_tree.specs.declared.keyword.Keyword.{Keyword}
+use Rattle.jo_parse_tree.specs.declared.keyword.Keyword.TheVariants as keyword
+use Rattle.jo_parse_tree.specs.declared.operator.AssignOperator.{AssignOperator}
+use Rattle.jo_parse_tree.specs.declared.operator.AssignOperator.TheVariants as assign_op
+use Rattle.jo_parse_tree.specs.declared.operator.BinaryOperator.{BinaryOperator}
+use Rattle.jo_parse_tree.specs.declared.operator.BinaryOperator.TheVariants as binary
+use Rattle.jo_parse_tree.specs.Trees.{Tree, number, literal, constant, variable, group, object, cas, member, unary, delete, chain, choose, assign, Props, no_props, prop, Accesses, no_accesses, field, index, Links, no_links, link}
 use Rattle.jo_model.specs.declared.call.Call.TheVariants as call
 use Rattle.jo_model.specs.Heaps.{shared}
 use Rattle.jo_meaning.specs.State.{Next, Environment, unless_fault, asks, made_in, found_in, flag_in, variable_of, value_at, with_value_at}

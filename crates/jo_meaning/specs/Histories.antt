@@ -1,7 +1,7 @@
 -- The history of a set of scripts.
 use Rattle.std.specs.Prelude.{◌≡◌, ℕ, ◌+◌, List, [], length, slice_get, Some}
 use Rattle.jo_value.specs.Texts.{Table}
-use Rattle.jo_tree.specs.Trees.{Items}
+use Rattle.jo_parse_tree.specs.Trees.{Items}
 use Rattle.jo_model.specs.declared.call.Outcome.{Outcome}
 use Rattle.jo_model.specs.Heaps.{heap_at_start}
 use Rattle.jo_model.specs.History.{History, IsLegal, calls_of, replies_of}
@@ -9,7 +9,7 @@ use Rattle.jo_meaning.specs.Runs.{Run, Ended}
 use Rattle.jo_meaning.specs.Play.{Played, play}
 use Rattle.jo_meaning.specs.Scripts.{interaction_of, does}
 
--- what script t does in a history, where its pass is t and it has so many turns
+-- what script t does in a history, where its pass is t and it has `turns` turns
 abbrev pub run_in : History → ℕ → Items → Table → ℕ → Run
 run_in w t script texts turns = does script texts turns (replies_of t w)
 
@@ -18,7 +18,7 @@ pub record IsRunIn (w : History) (t : ℕ) (script : Items) (texts : Table) (tur
   pub calls : calls_of t w ≡ (run_in w t script texts turns).calls
   pub ended : (run_in w t script texts turns).stand ≡ Ended outcome
 
--- A history of these scripts with their outcomes, where each has so many turns: it is legal, pass 0 is silent in it,
+-- A history of these scripts with their outcomes, where each has `turns` turns: it is legal, pass 0 is silent in it,
 -- and script t, counted from 1, is run to its end by pass t.
 pub record IsHistoryOf (scripts : List Items) (texts : Table) (turns : ℕ) (outcomes : List Outcome) (w : History) : Type 0 where
   pub legal : IsLegal (length scripts + 1) w

@@ -6,11 +6,11 @@ use Rattle.jo_value.specs.declared.value.Value.{Value}
 use Rattle.jo_value.specs.declared.value.Value.TheVariants as value
 use Rattle.jo_value.specs.Keys.{key_of_int, key_of_id}
 use Rattle.jo_value.specs.Texts.{Table, id_in}
-use Rattle.jo_tree.specs.Words.{keyword_text}
-use Rattle.jo_tree.specs.declared.word.Name.{Name as Word}
-use Rattle.jo_tree.specs.declared.word.Name.TheVariants as word
-use Rattle.jo_tree.specs.declared.word.PropKey.{PropKey}
-use Rattle.jo_tree.specs.declared.word.PropKey.TheVariants as prop
+use Rattle.jo_parse_tree.specs.Words.{keyword_text}
+use Rattle.jo_parse_tree.specs.declared.word.Name.{Name as Word}
+use Rattle.jo_parse_tree.specs.declared.word.Name.TheVariants as word
+use Rattle.jo_parse_tree.specs.declared.word.PropKey.{PropKey}
+use Rattle.jo_parse_tree.specs.declared.word.PropKey.TheVariants as prop
 use Rattle.jo_model.specs.declared.call.Outcome.{Outcome}
 use Rattle.jo_model.specs.declared.call.Outcome.TheVariants as outcome
 

@@ -1,3 +1,6 @@
+-- To be believed, in reading order: Runs, State, Values, Keys, Printed, Expressions, Statements, Scripts, Histories
+-- and Output. Play serves: the history that one thread gives, which tests compare with. `inner` serves lemmas on
+-- scripts.
 pub mod Runs
 pub mod State
 pub mod Values

@@ -2,7 +2,7 @@
 use Rattle.std.specs.Prelude.{ℕ, ◌+◌, List, [], ◌++◌, flat_map, length}
 use Rattle.std.specs.List.{enumerate_from}
 use Rattle.jo_value.specs.Texts.{Table}
-use Rattle.jo_tree.specs.Trees.{Items}
+use Rattle.jo_parse_tree.specs.Trees.{Items}
 use Rattle.jo_model.specs.History.{History, heap_after}
 use Rattle.jo_model.specs.Rendered.{outcome_bytes, run_bytes, heap_bytes}
 use Rattle.jo_meaning.specs.Runs.{Stand, Waits, Ended}

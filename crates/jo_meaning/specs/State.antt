@@ -3,7 +3,7 @@ use Rattle.std.specs.Prelude.{ℕ, zero, suc, ◌==◌, if◌then◌else◌, Lis
 use Rattle.jo_value.specs.declared.value.NameId.{NameId}
 use Rattle.jo_value.specs.declared.value.Value.{Value}
 use Rattle.jo_value.specs.declared.value.Value.TheVariants as value
-use Rattle.jo_tree.specs.declared.word.Ident.{Ident}
+use Rattle.jo_parse_tree.specs.declared.word.Ident.{Ident}
 use Rattle.jo_model.specs.declared.call.Call.{Call}
 use Rattle.jo_model.specs.declared.call.Outcome.{Outcome}
 use Rattle.jo_model.specs.declared.call.Outcome.TheVariants as outcome

@@ -3,8 +3,8 @@ use Rattle.std.specs.Prelude.{true, ℕ, zero, suc, if◌then◌else◌, List, [
 use Rattle.jo_value.specs.declared.value.Value.{Value}
 use Rattle.jo_value.specs.declared.value.Value.TheVariants as value
 use Rattle.jo_value.specs.Texts.{Table}
-use Rattle.jo_tree.specs.Blocks.{declared_in, declared_by}
-use Rattle.jo_tree.specs.Trees.{Tree, Binding, Head, declares, begins, Statement, empty, block, when, either, while, for, break, continue, print, print_names, evaluate, Items, no_items, declare, perform}
+use Rattle.jo_parse_tree.specs.Blocks.{declared_in, declared_by}
+use Rattle.jo_parse_tree.specs.Trees.{Tree, Binding, Head, declares, begins, Statement, empty, block, when, either, while, for, break, continue, print, print_names, evaluate, Items, no_items, declare, perform}
 use Rattle.jo_model.specs.declared.call.Call.TheVariants as call
 use Rattle.jo_model.specs.declared.call.Outcome.TheVariants.{TurnsSpent}
 use Rattle.jo_model.specs.Printed.{line_of}
@@ -36,7 +36,7 @@ module _ (texts : Table) where
 
   -- ---- loops
 
-  -- A loop with so many tests at most. Each test costs a turn, which is paid first. A falsy value leaves the loop,
+  -- A loop with a bound on its tests. Each test costs a turn, which is paid first. A falsy value leaves the loop,
   -- and any other runs the body, which is given what comes again.
   abbrev pub repeats : ℕ → Giving Value → (Next → Next) → Next → Next
   repeats zero test body after = ends TurnsSpent

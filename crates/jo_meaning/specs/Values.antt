@@ -7,10 +7,10 @@ use Rattle.jo_value.specs.declared.value.Value.{Value}
 use Rattle.jo_value.specs.declared.value.Value.TheVariants as value
 use Rattle.jo_value.specs.Texts.{Table, text_in}
 use Rattle.jo_value.specs.Values.{is_strictly_equal}
-use Rattle.jo_tree.specs.declared.operator.BinaryOperator.{BinaryOperator}
-use Rattle.jo_tree.specs.declared.operator.BinaryOperator.TheVariants as binary
-use Rattle.jo_tree.specs.declared.operator.UnaryOperator.{UnaryOperator}
-use Rattle.jo_tree.specs.declared.operator.UnaryOperator.TheVariants as unary
+use Rattle.jo_parse_tree.specs.declared.operator.BinaryOperator.{BinaryOperator}
+use Rattle.jo_parse_tree.specs.declared.operator.BinaryOperator.TheVariants as binary
+use Rattle.jo_parse_tree.specs.declared.operator.UnaryOperator.{UnaryOperator}
+use Rattle.jo_parse_tree.specs.declared.operator.UnaryOperator.TheVariants as unary
 use Rattle.jo_model.specs.declared.call.Outcome.{Outcome}
 use Rattle.jo_model.specs.declared.call.Outcome.TheVariants.{TypeFault, NotSafe}
 

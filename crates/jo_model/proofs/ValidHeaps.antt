@@ -30,7 +30,7 @@ serial_in_range (value.Int i) h = lit< tt
 serial_in_range (value.Text t) h = lit< tt
 serial_in_range (value.Object o) h = h
 
--- so many passes, each of so many objects like this one
+-- `passes` passes, each of `objects` objects like x
 abbrev pub alike : ℕ → ℕ → Object → Heap
 alike passes objects x = replicate passes (replicate objects x)
 

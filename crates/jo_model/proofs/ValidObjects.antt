@@ -93,7 +93,7 @@ valid-of_names heap names = record {
   indexes = All-nil (λ p. p.0 ≤ MOST_INDEX);
 }
 
--- So many names, with rising ids.
+-- Lists of n names, with rising ids.
 
 abbrev names_from : ℕ → ℕ → List NameId
 names_from first zero = []

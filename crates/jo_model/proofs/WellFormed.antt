@@ -83,7 +83,7 @@ pub well_formed-start : (passes : ℕ) → IsWellFormedHeap (heap_at_start passe
 well_formed-start passes =
     All-cons AreWellFormed (empty_object ∷ []) _ (well_formed-more [] (omega arith) well_formed-none) (All-replicate AreWellFormed (passes - 1) [] well_formed-none)
 
--- a heap of so many passes stays well formed where one pass gets other objects
+-- a heap of fewer than 2 ^ 8 passes stays well formed where one pass gets other objects
 pub well_formed-passes : (heap : Heap) (pass : ℕ) (objects : List Object) → (length heap < 2 ^ 8) × IsWellFormedHeap heap → AreWellFormed objects
     → (length (set heap pass objects) < 2 ^ 8) × IsWellFormedHeap (set heap pass objects)
 well_formed-passes heap pass objects all one =

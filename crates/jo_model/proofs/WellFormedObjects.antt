@@ -154,7 +154,7 @@ put-cases o key value false false e f well = rw (e, f) (well_formed-property o k
 pub well_formed-put : (o : Object) (key : Key) (value : Value) → IsWellFormed o → IsWellFormed (put_in o key value).0
 well_formed-put o key value well = put-cases o key value _ _ refl refl well
 
--- so does a put that may want memory
+-- so does a put that may be refused memory
 pub well_formed-tried : {E : Type 0} (old new : Object) (key : Key) (value : Value) (result : Result Reply E) → IfOk result (λ reply. put_in old key value ≡ (new, reply)) → OnErr result (new ≡ old) → IsWellFormed old → IsWellFormed new
 well_formed-tried old new key value (Ok reply) done kept well = subst IsWellFormed (ap (λ p. p.0) done) (well_formed-put old key value well)
 well_formed-tried old new key value (Err fault) done kept well = subst IsWellFormed (sym kept) well

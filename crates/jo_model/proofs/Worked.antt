@@ -184,7 +184,7 @@ a_delete_takes_an_index_out = refl
 
 -- Limits.
 
--- so many names, each with its id as its value
+-- n names, each with its id as its value
 abbrev numbered : ℕ → List (NameId × Value)
 numbered zero = []
 numbered (suc n) = numbered n ++ named n (number n) ∷ []

@@ -13,7 +13,7 @@ IsOnBornObject heap (Put o key value) = IsBorn heap o
 IsOnBornObject heap (Delete o key) = IsBorn heap o
 IsOnBornObject heap (Cas o key expected desired) = IsBorn heap o
 
--- the call may want memory in the slow heap: an object or a property more
+-- the call may be refused memory in the reference heap: it may make an object or a property more
 abbrev pub MayWantMemory : Call → Type 0
 MayWantMemory New = Unit {0}
 MayWantMemory (Put o key value) = Unit {0}

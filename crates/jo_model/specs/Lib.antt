@@ -1,3 +1,6 @@
+-- To be believed, in reading order: Objects, Heaps, One, History, Logs, Placed, Joined, Printed and Rendered. Whoever
+-- makes calls has to believe WellFormed, Valid, Calls and Fits too, and who gives a heap of their own to read, Reading. `inner` serves the proof that a history stays
+-- lawful while it grows.
 pub mod Objects
 pub mod Heaps
 pub mod One

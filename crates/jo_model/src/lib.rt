@@ -1,4 +1,4 @@
-//! What calls on the heap mean, how what they leave is written, and the slow heap of one thread.
+//! What calls on the heap mean, how what they leave is written, and the reference heap of one thread.
 #![tactic(auto)]
 
 mod call;

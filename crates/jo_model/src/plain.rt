@@ -1,4 +1,5 @@
-// The slow heap: for each pass a list of objects, each two lists of pairs. It is there for what it means, not for speed.
+// The reference heap: for each pass a list of objects, each two lists of pairs. It is there for what it means, not for
+// speed.
 ghost use Rattle.std.specs.Prelude.{◌≡◌, ◌<◌, ◌↔◌, length, slice_get, IfOk, OnErr, IsTrue};
 
 mod object;
@@ -42,7 +43,7 @@ impl PlainHeap {
     ghost use Rattle.jo_model.specs.Fits.{LeavesValid};
     ghost use Rattle.jo_model.specs.declared.call.Call.TheVariants as calls;
 
-    /// The heap of so many passes at the start: object 0.0 alone, without properties. Pass 0 is one of them.
+    /// The heap of `passes` passes at the start: object 0.0 alone, without properties. Pass 0 is one of them.
     pub fn new(alloc: Global, passes: u8) -> Result<PlainHeap, AllocError>
         requires { 0 < passes }
         ensures { IfOk result (λ heap. heap ≡ heap_at_start passes) }
@@ -58,7 +59,7 @@ impl PlainHeap {
         })
     }
 
-    /// Makes a call of a pass. Only a New or a Put wants memory, and after an `Err` the heap is as before.
+    /// Makes a call of a pass. Only a New or a Put may be refused memory, and after an `Err` the heap is as before.
     ///
     /// On a valid heap a valid call leaves a valid heap, and its reply is valid there and fits the call.
     pub fn call(&mut self, pass: u8, call: Call) -> Result<Reply, AllocError>

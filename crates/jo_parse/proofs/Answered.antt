@@ -6,10 +6,10 @@ use Rattle.jo_lex.specs.declared.refusal.Refusal.{Refusal}
 use Rattle.jo_lex.specs.declared.refusal.ParseFault.{ParseFault}
 use Rattle.jo_lex.specs.declared.refusal.ParseFault.TheVariants.{Memory, Refused}
 use Rattle.jo_lex.specs.Faults.{Refuses}
-use Rattle.jo_tree.specs.Trees.{Items}
-use Rattle.jo_grammar.specs.Sets.{IsAcceptedSet, IsRefusal}
+use Rattle.jo_parse_tree.specs.Trees.{Items}
+use Rattle.jo_parse_grammar.specs.Sets.{IsAcceptedSet, IsRefusal}
 use Rattle.jo_parse.specs.Parsed.{Parsed, GivesSet, IsSetFault, trees_of}
-use Rattle.jo_grammar.proofs.OneAnswer.{one_set, set_or_refused, one_refusal}
+use Rattle.jo_parse_grammar.proofs.OneAnswer.{one_set, set_or_refused, one_refusal}
 
 module _ (bytes : List ℕ) where
   pub complete : (answer : Result Parsed ParseFault) → IfOk answer (λ set. IsAcceptedSet bytes (trees_of set) set.1) → IfErr answer (IsSetFault bytes)

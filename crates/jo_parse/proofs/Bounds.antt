@@ -1,6 +1,6 @@
 -- The sections of an input end within it.
 use Rattle.std.proofs.Common.{◌≡◌, ℕ, ◌+◌, ◌≤◌, Bool, true, false, List, [], ◌∷◌, ◌++◌, length, refl, ap, arith, length-append}
-use Rattle.jo_grammar.specs.Cuts.{lines_of, with_first, is_separator, sections_from, sections_of, AreWithin}
+use Rattle.jo_parse_grammar.specs.Cuts.{lines_of, with_first, is_separator, sections_from, sections_of, AreWithin}
 use Rattle.jo_parse.proofs.Lines.{is_feed, lines-nil, lines-feed, lines-other}
 use Rattle.jo_parse.proofs.Cutting.{from-nil, from-separator, from-other}
 

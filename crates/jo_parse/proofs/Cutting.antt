@@ -2,7 +2,7 @@
 use Rattle.std.proofs.Common.{◌≡◌, ℕ, ◌+◌, ◌-◌, ◌<◌, Bool, true, false, List, [], ◌∷◌, ◌++◌, length, slice_get, Some, refl, sym, ap, ◌∙◌, arith, append_assoc, length-append}
 use Rattle.std.proofs.lemmas.List.{append_cancel_right}
 use Rattle.jo_value.specs.declared.limits.TheConstants.{MOST_SCRIPTS}
-use Rattle.jo_grammar.specs.Cuts.{Section, lines_of, is_separator, sections_from, sections_of, IsOneTooMany}
+use Rattle.jo_parse_grammar.specs.Cuts.{Section, lines_of, is_separator, sections_from, sections_of, IsOneTooMany}
 use Rattle.jo_parse.proofs.Lines.{lines-nil}
 
 -- a section has begun where `from` does in the whole input, and it goes on with the lines of the rest

@@ -9,14 +9,14 @@ use Rattle.jo_lex.specs.declared.refusal.RefusalKind.{RefusalKind}
 use Rattle.jo_lex.specs.declared.refusal.RefusalKind.TheVariants as kind
 use Rattle.jo_lex.specs.declared.refusal.ParseFault.{ParseFault}
 use Rattle.jo_lex.specs.declared.refusal.ParseFault.TheVariants.{Memory, Refused}
-use Rattle.jo_tree.specs.Trees.{Items}
-use Rattle.jo_grammar.specs.Refusals.{Fault, unexpected, too_deep}
-use Rattle.jo_grammar.specs.TokenRefusals.{refusal_kind}
-use Rattle.jo_grammar.specs.Declarations.{ScopeFault, undeclared, twice, Found, first_of_faults}
-use Rattle.jo_grammar.specs.NameRefusals as judged
-use Rattle.jo_grammar.specs.NameRefusals.{refusal_for}
-use Rattle.jo_grammar.specs.Cuts.{sections_of}
-use Rattle.jo_grammar.specs.Sets.{IsFirstUnread, IsFirstMisspelled, IsCut, IsLexed, IsParsed, IsRefusal, IsRefusalOf, faults_of_all}
+use Rattle.jo_parse_tree.specs.Trees.{Items}
+use Rattle.jo_parse_grammar.specs.Refusals.{Fault, unexpected, too_deep}
+use Rattle.jo_parse_grammar.specs.TokenRefusals.{refusal_kind}
+use Rattle.jo_parse_grammar.specs.Declarations.{ScopeFault, undeclared, twice, Found, first_of_faults}
+use Rattle.jo_parse_grammar.specs.NameRefusals as judged
+use Rattle.jo_parse_grammar.specs.NameRefusals.{refusal_for}
+use Rattle.jo_parse_grammar.specs.Cuts.{sections_of}
+use Rattle.jo_parse_grammar.specs.Sets.{IsFirstUnread, IsFirstMisspelled, IsCut, IsLexed, IsParsed, IsRefusal, IsRefusalOf, faults_of_all}
 use Rattle.jo_parse.specs.Parsed.{IsSetFault}
 use Rattle.jo_parse.specs.inner.CutScripts.{IsCutFault}
 use Rattle.jo_parse.specs.inner.Stages.{IsNothing, IsTokensFault, IsTreeFault, IsFirstNameFault}

@@ -15,8 +15,8 @@ use Rattle.jo_lex.specs.Characters.{Characters, begins_with, is_spoiler, is_word
 use Rattle.jo_lex.specs.Punctuators.{Row, punctuator_of}
 use Rattle.jo_lex.specs.Pieces.{Lexeme, word, number, text, Piece, gap, lexeme, fault, after_close, closed, comment, limited, word_piece, literal_rest, text_piece, judged, decimal, number_piece, accepted, punctuator_piece, token_piece, piece}
 use Rattle.jo_lex.specs.Tokens.{Progress, Advance, ended, refused, onward, with_token, taken, next_of, last, token_kind}
-use Rattle.jo_grammar.specs.Cuts.{Section}
-use Rattle.jo_grammar.specs.Sets.{begun, IsFirstUnread}
+use Rattle.jo_parse_grammar.specs.Cuts.{Section}
+use Rattle.jo_parse_grammar.specs.Sets.{begun, IsFirstUnread}
 
 abbrev pub IsLexKind : RefusalKind → Type 0
 IsLexKind kind.BadToken = Unit {0}

@@ -3,7 +3,7 @@ use Rattle.std.proofs.Common.{◌≡◌, ℕ, suc, ◌+◌, ◌<◌, ◌==◌, B
 use Rattle.std.proofs.lemmas.Grind.{common_steps}
 use Rattle.std.proofs.lemmas.List.Sums.{position_or_len_is}
 use Rattle.std.specs.List.{position_or_len}
-use Rattle.jo_grammar.specs.Cuts.{lines_of, with_first}
+use Rattle.jo_parse_grammar.specs.Cuts.{lines_of, with_first}
 
 abbrev pub is_feed : ℕ → Bool
 is_feed b = b == 10

@@ -1,10 +1,10 @@
 -- Each script of a sound set is sound.
 use Rattle.std.proofs.Common.{ℕ, zero, suc, ◌<◌, List, [], ◌∷◌, length, map, get_or, arith}
 use Rattle.jo_value.specs.Texts.{Table}
-use Rattle.jo_tree.specs.declared.script.Script.{Script}
-use Rattle.jo_tree.specs.ScriptViews.{script_tree}
-use Rattle.jo_grammar.specs.Sound.{IsSound}
-use Rattle.jo_grammar.specs.Soundness.{AreSound}
+use Rattle.jo_parse_tree.specs.declared.script.Script.{Script}
+use Rattle.jo_parse_tree.specs.ScriptViews.{script_tree}
+use Rattle.jo_parse_grammar.specs.Sound.{IsSound}
+use Rattle.jo_parse_grammar.specs.Soundness.{AreSound}
 
 pub sound_at : (texts : Table) (scripts : List Script) (at : ℕ) (d : Script) → AreSound texts (map script_tree scripts) → at < length scripts
     → IsSound texts (script_tree (get_or scripts at d))

@@ -10,17 +10,17 @@ use Rattle.jo_lex.specs.declared.refusal.ParseFault.{ParseFault}
 use Rattle.jo_lex.specs.declared.refusal.ParseFault.TheVariants.{Memory, Refused}
 use Rattle.jo_lex.specs.Tokens.{IsRead}
 use Rattle.jo_lex.specs.Tokens as lexed
-use Rattle.jo_tree.specs.declared.script.Script.{Script}
-use Rattle.jo_tree.specs.ScriptViews.{script_tree}
-use Rattle.jo_tree.specs.Trees.{Items}
-use Rattle.jo_grammar.specs.Statements.{IsScript}
-use Rattle.jo_grammar.specs.Refusals.{IsAccepted}
-use Rattle.jo_grammar.specs.TokenRefusals.{IsFault}
-use Rattle.jo_grammar.specs.Terminals.{terminals_of}
+use Rattle.jo_parse_tree.specs.declared.script.Script.{Script}
+use Rattle.jo_parse_tree.specs.ScriptViews.{script_tree}
+use Rattle.jo_parse_tree.specs.Trees.{Items}
+use Rattle.jo_parse_grammar.specs.Statements.{IsScript}
+use Rattle.jo_parse_grammar.specs.Refusals.{IsAccepted}
+use Rattle.jo_parse_grammar.specs.TokenRefusals.{IsFault}
+use Rattle.jo_parse_grammar.specs.Terminals.{terminals_of}
 use Rattle.jo_parse.specs.declared.section.Section.{Section as Held}
-use Rattle.jo_grammar.specs.Cuts.{Section, AreWithin}
+use Rattle.jo_parse_grammar.specs.Cuts.{Section, AreWithin}
 use Rattle.jo_parse.specs.inner.CutScripts.{section_of, sections_in}
-use Rattle.jo_grammar.specs.Sets.{begun, AreRead, IsFirstUnread, AreScripts, IsMisspelled, IsFirstMisspelled}
+use Rattle.jo_parse_grammar.specs.Sets.{begun, AreRead, IsFirstUnread, AreScripts, IsMisspelled, IsFirstMisspelled}
 use Rattle.jo_parse.specs.inner.Stages.{IsTreeFault, lists_of}
 use Rattle.jo_parse.proofs.Within.{views_left, none_left}
 
@@ -67,7 +67,7 @@ module _ {Z : Type 0} (start : Table) (scripts : List Section) (here : Table) (s
 
 -- ---- trees
 
--- all lists of tokens spell trees; up to a rest they do
+-- all lists of tokens parse as trees; up to a rest they do
 pub record Spells (texts : Table) (lists : List (List Token)) (rest : List (List Token)) (done : List Items) : Type 0 where
   pub spelled : (scripts : List Items) → AreScripts texts rest scripts → AreScripts texts lists (done ++ scripts)
   pub misspelled : (refusal : Refusal) → IsFirstMisspelled texts rest refusal → IsFirstMisspelled texts lists refusal

@@ -6,11 +6,11 @@ use Rattle.jo_value.specs.declared.limits.TheConstants.{MOST_SCRIPTS}
 use Rattle.jo_value.specs.Texts.{Table}
 use Rattle.jo_lex.specs.declared.token.Token.{Token}
 use Rattle.jo_lex.specs.declared.refusal.ParseFault.{ParseFault}
-use Rattle.jo_tree.specs.declared.script.Script.{Script}
-use Rattle.jo_tree.specs.ScriptViews.{script_tree}
-use Rattle.jo_tree.specs.Trees.{Items}
-use Rattle.jo_grammar.specs.Cuts.{sections_of}
-use Rattle.jo_grammar.specs.Sets.{AreRead, AreScripts, IsAcceptedSet, IsCut, IsLexed, IsParsed, faults_of_all, is_nothing}
+use Rattle.jo_parse_tree.specs.declared.script.Script.{Script}
+use Rattle.jo_parse_tree.specs.ScriptViews.{script_tree}
+use Rattle.jo_parse_tree.specs.Trees.{Items}
+use Rattle.jo_parse_grammar.specs.Cuts.{sections_of}
+use Rattle.jo_parse_grammar.specs.Sets.{AreRead, AreScripts, IsAcceptedSet, IsCut, IsLexed, IsParsed, faults_of_all, is_nothing}
 use Rattle.jo_parse.specs.declared.section.Section.{Section as Held}
 use Rattle.jo_parse.specs.Parsed.{IsSetFault}
 use Rattle.jo_parse.specs.inner.CutScripts.{section_of, sections_in}

@@ -1,6 +1,6 @@
 -- Where the scripts of a set end, and what is left at a turn of a loop over a list.
 use Rattle.std.proofs.Common.{◌≡◌, ◌∙◌, ap, refl, ℕ, zero, suc, ◌+◌, ◌<◌, ◌≤◌, List, [], ◌∷◌, length, map, drop, get_or, add-one, drop-cons, arith}
-use Rattle.jo_grammar.specs.Cuts.{Section, AreWithin}
+use Rattle.jo_parse_grammar.specs.Cuts.{Section, AreWithin}
 
 pub within_more : (few most : ℕ) (sections : List Section) → few ≤ most → AreWithin few sections → AreWithin most sections
 within_more few most [] h w = tt

@@ -4,10 +4,10 @@ use Rattle.jo_value.specs.Texts.{Table}
 use Rattle.jo_lex.specs.declared.refusal.ParseFault.{ParseFault}
 use Rattle.jo_lex.specs.declared.refusal.ParseFault.TheVariants.{Memory, Refused}
 use Rattle.jo_lex.specs.Faults.{IsMemoryOr}
-use Rattle.jo_tree.specs.declared.script.Script.{Script}
-use Rattle.jo_tree.specs.ScriptViews.{script_tree}
-use Rattle.jo_tree.specs.Trees.{Items}
-use Rattle.jo_grammar.specs.Sets.{IsRefusal}
+use Rattle.jo_parse_tree.specs.declared.script.Script.{Script}
+use Rattle.jo_parse_tree.specs.ScriptViews.{script_tree}
+use Rattle.jo_parse_tree.specs.Trees.{Items}
+use Rattle.jo_parse_grammar.specs.Sets.{IsRefusal}
 
 -- a set that was read: its scripts, and the table of their texts
 abbrev pub Parsed : Type 0
@@ -17,7 +17,7 @@ Parsed = List Script × Table
 abbrev pub trees_of : Parsed → List Items
 trees_of set = map script_tree set.0
 
--- want of memory, or the refusal of the bytes
+-- Memory, or the refusal of the bytes
 abbrev pub IsSetFault : List ℕ → ParseFault → Type 0
 IsSetFault bytes = IsMemoryOr (IsRefusal bytes)
 

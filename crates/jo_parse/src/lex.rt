@@ -1,9 +1,9 @@
 // From the sections of a set to their tokens.
 ghost use Rattle.std.specs.Prelude.{◌≡◌, [], false, IfErr, IfOk};
 ghost use Rattle.jo_value.specs.declared.limits.TheConstants.{MOST_INPUT};
-ghost use Rattle.jo_grammar.specs.Cuts.{AreWithin};
+ghost use Rattle.jo_parse_grammar.specs.Cuts.{AreWithin};
 ghost use Rattle.jo_parse.specs.inner.CutScripts.{sections_in};
-ghost use Rattle.jo_grammar.specs.Sets.{AreRead, is_nothing};
+ghost use Rattle.jo_parse_grammar.specs.Sets.{AreRead, is_nothing};
 ghost use Rattle.jo_parse.specs.inner.Stages.{IsLexFault, IsTokensFault, lists_of};
 
 use crate::section::Section;

@@ -6,7 +6,7 @@ mod named;
 mod reader;
 mod section;
 mod set;
-mod spell;
+mod trees;
 mod utf8;
 
 pub use jo_lex::{ParseFault, Refusal, RefusalKind};

@@ -4,15 +4,15 @@ ghost use Rattle.jo_value.specs.declared.limits.TheConstants.{MOST_INPUT};
 ghost use Rattle.jo_value.specs.Texts.{Table};
 ghost use Rattle.jo_lex.specs.declared.refusal.Refusal.{Refusal};
 ghost use Rattle.jo_lex.specs.Faults.{Refuses};
-ghost use Rattle.jo_tree.specs.Trees.{Items};
-ghost use Rattle.jo_grammar.specs.Sets.{IsRefusal, IsAcceptedSet};
+ghost use Rattle.jo_parse_tree.specs.Trees.{Items};
+ghost use Rattle.jo_parse_grammar.specs.Sets.{IsRefusal, IsAcceptedSet};
 ghost use Rattle.jo_parse.specs.Parsed.{GivesSet, IsSetFault, trees_of};
 
 use crate::lex::lex;
-use crate::named::judge_all;
+use crate::named::check_all_scopes;
 use crate::section::cut;
 use crate::set::ScriptSet;
-use crate::spell::spell;
+use crate::trees::parse_scripts;
 use crate::utf8::decode;
 use jo_lex::ParseFault;
 use std::alloc::Global;
@@ -26,8 +26,8 @@ fn read(alloc: Global, bytes: &[u8]) -> Result<ScriptSet, ParseFault>
     let input = decode(bytes)?;
     let sections = cut(alloc, input)?;
     let lexed = lex(alloc, sections.as_slice())?;
-    let scripts = spell(alloc, lexed.lists.as_slice(), &lexed.texts)?;
-    judge_all(alloc, scripts.as_slice())?;
+    let scripts = parse_scripts(alloc, lexed.lists.as_slice(), &lexed.texts)?;
+    check_all_scopes(alloc, scripts.as_slice())?;
     Ok(ScriptSet {
         scripts,
         texts: lexed.texts,

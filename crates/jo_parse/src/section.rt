@@ -3,7 +3,7 @@ ghost use Rattle.std.specs.Prelude.{◌≡◌, ◌+◌, ◌<◌, ◌≤◌, [], 
 ghost use Rattle.std.specs.Str.{IsCharBoundary};
 ghost use Rattle.jo_value.specs.declared.limits.TheConstants.{MOST_INPUT, MOST_SCRIPTS};
 ghost use Rattle.jo_lex.specs.Characters.{EndsWith};
-ghost use Rattle.jo_grammar.specs.Cuts.{AreWithin, is_separator, lines_of, sections_of};
+ghost use Rattle.jo_parse_grammar.specs.Cuts.{AreWithin, is_separator, lines_of, sections_of};
 ghost use Rattle.jo_parse.specs.inner.CutScripts.{IsCutFault, one_too_many, sections_in, section_of};
 
 use jo_lex::{ParseFault, Refusal, RefusalKind, front};

@@ -1,6 +1,6 @@
 // A set of scripts that was read.
 
-use jo_tree::Script;
+use jo_parse_tree::Script;
 use jo_value::Texts;
 use std::marker::Model;
 
@@ -16,10 +16,10 @@ pub struct ScriptSet {
 impl Model for ScriptSet {
     ghost use Rattle.std.specs.Prelude.{◌≤◌, length, map};
     ghost use Rattle.jo_value.specs.declared.limits.TheConstants.{MOST_SCRIPTS};
-    ghost use Rattle.jo_tree.specs.ScriptViews.{script_tree};
-    ghost use Rattle.jo_grammar.specs.Soundness.{AreSound};
+    ghost use Rattle.jo_parse_tree.specs.ScriptViews.{script_tree};
+    ghost use Rattle.jo_parse_grammar.specs.Soundness.{AreSound};
     ghost use Rattle.std.specs.Coded.{codes};
-    ghost use Rattle.jo_tree.specs.contracts.script.Item as item;
+    ghost use Rattle.jo_parse_tree.specs.contracts.script.Item as item;
     ghost use Rattle.jo_parse.specs.Parsed.{Parsed};
 
     ghost Value = { Parsed };
@@ -35,9 +35,9 @@ impl Model for ScriptSet {
 impl ScriptSet {
     ghost use Rattle.std.specs.Prelude.{◌≡◌, ◌<◌, ◌≤◌, length, slice_get, Some};
     ghost use Rattle.jo_value.specs.declared.limits.TheConstants.{MOST_SCRIPTS};
-    ghost use Rattle.jo_grammar.specs.Sound.{IsSound};
+    ghost use Rattle.jo_parse_grammar.specs.Sound.{IsSound};
     ghost use Rattle.jo_parse.specs.Parsed.{trees_of};
-    ghost use Rattle.jo_tree.specs.ScriptViews.{script_tree};
+    ghost use Rattle.jo_parse_tree.specs.ScriptViews.{script_tree};
 
     /// How many scripts there are.
     pub fn len(&self) -> u8

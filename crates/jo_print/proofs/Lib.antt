@@ -1,2 +1,2 @@
-pub mod Advancing
-pub mod Printed
+pub mod FirstLine
+pub mod Series

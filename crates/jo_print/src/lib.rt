@@ -1,7 +1,6 @@
-//! Text that goes to a sink as it is made, through a small buffer.
+//! The parts of the output of a run, printed as they are made.
 #![tactic(auto)]
 
-mod integers;
-mod printer;
+mod print;
 
-pub use printer::{MOST_WAITING, Printer};
+pub use print::{print_heap, print_run};

@@ -7,7 +7,7 @@ use Rattle.jo_value.specs.declared.limits.TheConstants.{MOST_INPUT}
 use Rattle.jo_run.specs.declared.set.Ended.{Ended}
 use Rattle.jo_answer.specs.declared.due.Verdict.{Verdict}
 use Rattle.jo_answer.specs.declared.due.Verdict.TheVariants as verdict
-use Rattle.jo_answer.specs.declared.order.Order.{Order}
+use Rattle.jo_answer.specs.declared.options.RunOptions.{RunOptions}
 use Rattle.jo_answer.specs.Answers.{IsDue}
 use Rattle.jo_answer.proofs.Runnable.{run_is_set, refused_input, large_input, set_runs, refused_refuses}
 use Rattle.jo_program.specs.declared.status.Status.TheVariants as status
@@ -15,10 +15,10 @@ use Rattle.jo_program.specs.Run.{status_of, IsAnswer, IsJudged}
 use Rattle.jo_program.proofs.Statuses.{same_said, due_status, run_status, run_verdict}
 
 -- what is not too large was read to its end
-pub answered : (left left' : Option (List ℕ)) (order : Order) (said : Verdict) (bytes : List ℕ) (ended : Option Ended) (text : List ℕ)
+pub answered : (left left' : Option (List ℕ)) (options : RunOptions) (said : Verdict) (bytes : List ℕ) (ended : Option Ended) (text : List ℕ)
     → Consumes left left' bytes → (length bytes < MOST_INPUT + 1 → IsAtEnd left') → ((said ≡ verdict.TooLarge → ⊥) → length bytes ≤ MOST_INPUT)
-    → IsDue said order bytes ended text → IsAnswer order said left left' ended text
-answered left left' order said bytes ended text read whole few due = record {
+    → IsDue said options bytes ended text → IsAnswer options said left left' ended text
+answered left left' options said bytes ended text read whole few due = record {
   bytes = bytes;
   read = read;
   whole = λ small. let le : length bytes ≤ MOST_INPUT = few small in whole (omega (arith, le));
@@ -29,17 +29,17 @@ answered left left' order said bytes ended text read whole few due = record {
 -- ---- what is said of the bytes that were read
 
 -- bytes that were read to their end, and are not too many
-pub judged_whole : (order : Order) (said : Verdict) (bytes : List ℕ) (ended : Option Ended) (text : List ℕ) → length bytes ≤ MOST_INPUT
-    → IsDue said order bytes ended text → IsJudged (status_of said) bytes
-judged_whole order said bytes ended text few due =
-    let due_as : (v : Verdict) → said ≡ v → IsDue v order bytes ended text = λ v e. subst (λ v. IsDue v order bytes ended text) e due in
+pub judged_whole : (options : RunOptions) (said : Verdict) (bytes : List ℕ) (ended : Option Ended) (text : List ℕ) → length bytes ≤ MOST_INPUT
+    → IsDue said options bytes ended text → IsJudged (status_of said) bytes
+judged_whole options said bytes ended text few due =
+    let due_as : (v : Verdict) → said ≡ v → IsDue v options bytes ended text = λ v e. subst (λ v. IsDue v options bytes ended text) e due in
     record {
-      run = λ small set. run_status said (set_runs order said bytes ended text small set due);
-      refused = λ small refused. due_status said verdict.Refused (refused_refuses order said bytes ended text small refused due);
+      run = λ small set. run_status said (set_runs options said bytes ended text small set due);
+      refused = λ small refused. due_status said verdict.Refused (refused_refuses options said bytes ended text small refused due);
       large = λ more. absurd (omega (arith, few, more));
-      only_run = λ is. run_is_set order said bytes ended text due (run_verdict said is);
-      only_refused = λ is. refused_input order bytes ended text (due_as verdict.Refused (same_said said verdict.Refused is));
-      only_large = λ is. large_input order bytes ended text (due_as verdict.TooLarge (same_said said verdict.TooLarge is));
+      only_run = λ is. run_is_set options said bytes ended text due (run_verdict said is);
+      only_refused = λ is. refused_input options bytes ended text (due_as verdict.Refused (same_said said verdict.Refused is));
+      only_large = λ is. large_input options bytes ended text (due_as verdict.TooLarge (same_said said verdict.TooLarge is));
     }
 
 -- ---- what is said of the input
@@ -61,14 +61,14 @@ too_large (Some input) None bytes read large = absurd read
 too_large (Some input) (Some rest) bytes read large = judged_large input (omega (arith, large, ap length read, length-append bytes rest))
 
 -- what is said of bytes that are not too many is said of the whole input
-judged_read : (left left' : Option (List ℕ)) (order : Order) (said : Verdict) (ended : Option Ended) (text : List ℕ) → said ≢ verdict.TooLarge
-    → IsAnswer order said left left' ended text → IfSome left (IsJudged (status_of said))
-judged_read left left' order said ended text small a =
-    Consumes-whole left left' a.bytes (IsJudged (status_of said)) a.read (a.whole small) (judged_whole order said a.bytes ended text (a.few small) a.due)
+judged_read : (left left' : Option (List ℕ)) (options : RunOptions) (said : Verdict) (ended : Option Ended) (text : List ℕ) → said ≢ verdict.TooLarge
+    → IsAnswer options said left left' ended text → IfSome left (IsJudged (status_of said))
+judged_read left left' options said ended text small a =
+    Consumes-whole left left' a.bytes (IsJudged (status_of said)) a.read (a.whole small) (judged_whole options said a.bytes ended text (a.few small) a.due)
 
-pub judged : (left left' : Option (List ℕ)) (order : Order) (said : Verdict) (ended : Option Ended) (text : List ℕ) → IsAnswer order said left left' ended text
+pub judged : (left left' : Option (List ℕ)) (options : RunOptions) (said : Verdict) (ended : Option Ended) (text : List ℕ) → IsAnswer options said left left' ended text
     → IfSome left (IsJudged (status_of said))
-judged left left' order verdict.Done ended text a = judged_read left left' order verdict.Done ended text (λ e. cc) a
-judged left left' order verdict.EndedWithFaults ended text a = judged_read left left' order verdict.EndedWithFaults ended text (λ e. cc) a
-judged left left' order verdict.Refused ended text a = judged_read left left' order verdict.Refused ended text (λ e. cc) a
-judged left left' order verdict.TooLarge ended text a = too_large left left' a.bytes a.read (large_input order a.bytes ended text a.due)
+judged left left' options verdict.Done ended text a = judged_read left left' options verdict.Done ended text (λ e. cc) a
+judged left left' options verdict.EndedWithFaults ended text a = judged_read left left' options verdict.EndedWithFaults ended text (λ e. cc) a
+judged left left' options verdict.Refused ended text a = judged_read left left' options verdict.Refused ended text (λ e. cc) a
+judged left left' options verdict.TooLarge ended text a = too_large left left' a.bytes a.read (large_input options a.bytes ended text a.due)

@@ -8,7 +8,7 @@ use Rattle.jo_made.specs.Made.{made}
 use Rattle.jo_made.proofs.Lengths.{made_short}
 use Rattle.jo_program.specs.declared.status.Status.{Status}
 use Rattle.jo_program.specs.declared.status.Status.TheVariants as status
-use Rattle.jo_program.specs.declared.words.Command.{Command}
+use Rattle.jo_program.specs.declared.command.Command.{Command}
 use Rattle.jo_program.specs.Words.{command_of}
 use Rattle.jo_program.specs.Run.{status_of, IsAnswerBy, IsAnswerTo, IsDueOutput, IsJudged, Writes, WritesPart}
 use Rattle.jo_program.specs.inner.Keeping.{IsKept, IsPrinted}

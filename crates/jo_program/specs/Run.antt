@@ -10,11 +10,11 @@ use Rattle.jo_answer.specs.declared.due.Verdict.TheVariants as verdict
 use Rattle.jo_answer.specs.Answers.{IsDue, IsSet, IsRefusedInput}
 use Rattle.jo_program.specs.declared.status.Status.{Status}
 use Rattle.jo_program.specs.declared.status.Status.TheVariants as status
-use Rattle.jo_answer.specs.declared.order.Order.{Order}
-use Rattle.jo_answer.specs.declared.order.Form.TheVariants.{Summary}
+use Rattle.jo_answer.specs.declared.options.RunOptions.{RunOptions}
+use Rattle.jo_answer.specs.declared.options.Form.TheVariants.{Summary}
 use Rattle.jo_made.specs.Made.{made}
-use Rattle.jo_program.specs.declared.words.Command.{Command}
-use Rattle.jo_program.specs.declared.words.Command.TheVariants as command
+use Rattle.jo_program.specs.declared.command.Command.{Command}
+use Rattle.jo_program.specs.declared.command.Command.TheVariants as command
 use Rattle.jo_program.specs.Words.{command_of}
 
 -- the exit code of each status
@@ -40,23 +40,23 @@ usage_line = codes "usage: jsobj run [--stats] [--turns T] | make N | run-made N
 
 -- The input was read, to its end unless it is too large; this is said of it with this order, this is left of a run, and what is
 -- written is due for it.
-pub record IsAnswer (order : Order) (said : Verdict) (left left' : Option (List ℕ)) (ended : Option Ended) (written : List ℕ) : Type 0 where
+pub record IsAnswer (options : RunOptions) (said : Verdict) (left left' : Option (List ℕ)) (ended : Option Ended) (written : List ℕ) : Type 0 where
   pub bytes : List ℕ
   pub read : Consumes left left' bytes
   pub whole : (said ≡ verdict.TooLarge → ⊥) → IsAtEnd left'
   pub few : (said ≡ verdict.TooLarge → ⊥) → length bytes ≤ MOST_INPUT
-  pub due : IsDue said order bytes ended written
+  pub due : IsDue said options bytes ended written
 
 -- the order in which a made set is run
-abbrev pub made_order : ℕ → Order
-made_order n = record { turns = DEFAULT_TURNS; form = Summary n }
+abbrev pub made_options : ℕ → RunOptions
+made_options n = record { turns = DEFAULT_TURNS; form = Summary n }
 
 -- What is said, what is left of a run and what is due, by what the words ask for: for the input that was read, for a made set that
 -- is written, or for one that is run.
 abbrev pub IsAnswerBy : Command → Verdict → Option (List ℕ) → Option (List ℕ) → Option Ended → List ℕ → Type 0
-IsAnswerBy (command.Run order) said left left' ended written = IsAnswer order said left left' ended written
+IsAnswerBy (command.Run options) said left left' ended written = IsAnswer options said left left' ended written
 IsAnswerBy (command.Make n) said left left' ended written = (said ≡ verdict.Done) × (ended ≡ None) × (written ≡ made n)
-IsAnswerBy (command.RunMade n) said left left' ended written = IsDue said (made_order n) (made n) ended written
+IsAnswerBy (command.RunMade n) said left left' ended written = IsDue said (made_options n) (made n) ended written
 
 pub record IsAnswerTo (words : List (String Global)) (said : Verdict) (left left' : Option (List ℕ)) (ended : Option Ended) (written : List ℕ) : Type 0 where
   pub command : Command
@@ -65,7 +65,7 @@ pub record IsAnswerTo (words : List (String Global)) (said : Verdict) (left left
 
 -- the words ask that a set is read
 abbrev pub Reads : Option Command → Type 0
-Reads (Some (command.Run order)) = ⊤
+Reads (Some (command.Run options)) = ⊤
 Reads _ = ⊥
 
 -- other words were given, nothing was run, and what is written is the usage line
@@ -87,14 +87,14 @@ Writes P held held' = (written : List ℕ) × P written × Appends held held' wr
 abbrev pub WritesPart : (List ℕ → Type 0) → Option (List ℕ) → Option (List ℕ) → Type 0
 WritesPart P held held' = (written : List ℕ) × P written × AppendsPart held held' written
 
--- this is answered, or a fault, or want of memory
+-- this is answered, or a fault, or Memory
 abbrev pub IsUnlessFault : Status → Status → Type 0
 IsUnlessFault due status.ReadFault = ⊤
 IsUnlessFault due status.WriteFault = ⊤
 IsUnlessFault due status.Memory = ⊤
 IsUnlessFault due result = result ≡ due
 
--- scripts were run, or a fault or want of memory is answered
+-- scripts were run, or a fault or Memory is answered
 abbrev pub IsRunUnlessFault : Status → Type 0
 IsRunUnlessFault status.Done = ⊤
 IsRunUnlessFault status.EndedWithFaults = ⊤
@@ -103,8 +103,8 @@ IsRunUnlessFault status.Refused = ⊥
 IsRunUnlessFault status.TooLarge = ⊥
 IsRunUnlessFault _ = ⊤
 
--- What is answered to an input, faults and want of memory aside: an accepted set is run, refused bytes are refused, and too many
--- bytes are too large. No other input is answered so.
+-- What is answered to an input, faults and Memory aside: an accepted set is run, refused bytes are refused, and too
+-- many bytes are too large. No other input is answered so.
 pub record IsJudged (result : Status) (bytes : List ℕ) : Type 0 where
   pub run : length bytes ≤ MOST_INPUT → IsSet bytes → IsRunUnlessFault result
   pub refused : length bytes ≤ MOST_INPUT → IsRefusedInput bytes → IsUnlessFault status.Refused result

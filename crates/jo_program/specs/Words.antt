@@ -6,10 +6,10 @@ use Rattle.std.specs.Str.Parse.{digits_value}
 use Rattle.std.specs.declared.alloc.Global.{Global}
 use Rattle.jo_value.specs.declared.limits.TheConstants.{DEFAULT_TURNS, MOST_MADE, MOST_TURNS}
 use Rattle.jo_value.specs.Keys.{is_numeral}
-use Rattle.jo_answer.specs.declared.order.Form.{Form}
-use Rattle.jo_answer.specs.declared.order.Form.TheVariants as form
-use Rattle.jo_program.specs.declared.words.Command.{Command}
-use Rattle.jo_program.specs.declared.words.Command.TheVariants.{Run, Make, RunMade}
+use Rattle.jo_answer.specs.declared.options.Form.{Form}
+use Rattle.jo_answer.specs.declared.options.Form.TheVariants as form
+use Rattle.jo_program.specs.declared.command.Command.{Command}
+use Rattle.jo_program.specs.declared.command.Command.TheVariants.{Run, Make, RunMade}
 
 -- the number between these bounds that a text is: decimal digits without a zero in front
 abbrev pub number_in : ℕ → ℕ → List ℕ → Option ℕ
@@ -27,7 +27,7 @@ turns_in word = number_in 1 MOST_TURNS (string_bytes word)
 abbrev pub made_in : String Global → Option ℕ
 made_in word = number_in 0 MOST_MADE (string_bytes word)
 
--- a set is read and run with so many turns, and this is written of it
+-- a set is read and run with `turns` turns, and this is written of it
 abbrev pub run_with : Form → ℕ → Command
 run_with form turns = Run (record { turns = turns; form = form })
 

@@ -2,12 +2,12 @@
 //! a process makes of it.
 #![tactic(auto)]
 
+mod command;
 mod process;
 mod status;
 mod top;
-mod words;
 
+pub use command::Command;
 pub use process::start;
 pub use status::Status;
 pub use top::{Kept, run};
-pub use words::Command;

@@ -8,12 +8,12 @@ ghost use Rattle.jo_answer.specs.Answers.{IsDue};
 ghost use Rattle.jo_answer.specs.Texts.{IsPrintable, ended_of, text_of};
 ghost use Rattle.jo_made.specs.Made.{made};
 ghost use Rattle.jo_program.specs.Words.{command_of};
-ghost use Rattle.jo_program.specs.Run.{made_order, status_of, IsAnswer, IsAnswerBy, IsAnswerTo, IsDueOutput, IsJudged, IsMadeUnlessFault, IsUsage, Reads, Writes, WritesPart};
+ghost use Rattle.jo_program.specs.Run.{made_options, status_of, IsAnswer, IsAnswerBy, IsAnswerTo, IsDueOutput, IsJudged, IsMadeUnlessFault, IsUsage, Reads, Writes, WritesPart};
 ghost use Rattle.jo_program.specs.inner.Keeping.{IsKept, IsPrinted};
 
 use crate::Status;
-use crate::words::{Command, command_of};
-use jo_answer::{Answer, Form, Order, Verdict, answer_to};
+use crate::command::{Command, command_of};
+use jo_answer::{Answer, Form, RunOptions, Verdict, answer_to};
 use jo_io::{Failed, ReadError, Sink, Source, read_all, write_all};
 use jo_made::made_set;
 use jo_run::{Ended, Gate};
@@ -88,13 +88,13 @@ pub fn run<R: Threads + Wait + Sync, S: Source, K: Sink, G: Gate>(
         → ConsumesAtMost (S.left source.old) (S.left source.new) MOST_INPUT }
 {
     match command_of(words) {
-        Some(command) => carry_out(rt, alloc, command, source, sink, gate),
-        None => put(sink, USAGE_LINE, Status::Usage),
+        Some(command) => run_command(rt, alloc, command, source, sink, gate),
+        None => write_text(sink, USAGE_LINE, Status::Usage),
     }
 }
 
 // Does what a command line asks for.
-fn carry_out<R: Threads + Wait + Sync, S: Source, K: Sink, G: Gate>(
+fn run_command<R: Threads + Wait + Sync, S: Source, K: Sink, G: Gate>(
     rt: &R,
     alloc: Global,
     command: Command,
@@ -118,7 +118,7 @@ fn carry_out<R: Threads + Wait + Sync, S: Source, K: Sink, G: Gate>(
         → ConsumesAtMost (S.left source.old) (S.left source.new) MOST_INPUT }
 {
     match command {
-        Command::Run(order) => run_read(rt, alloc, order, source, sink, gate),
+        Command::Run(options) => run_read(rt, alloc, options, source, sink, gate),
         Command::Make(number) => make(alloc, number, sink),
         Command::RunMade(number) => run_made(rt, alloc, number, sink, gate),
     }
@@ -128,12 +128,12 @@ fn carry_out<R: Threads + Wait + Sync, S: Source, K: Sink, G: Gate>(
 fn run_read<R: Threads + Wait + Sync, S: Source, K: Sink, G: Gate>(
     rt: &R,
     alloc: Global,
-    order: Order,
+    options: RunOptions,
     source: &mut S,
     sink: &mut K,
     gate: &G,
 ) -> Kept
-    ensures kept { IsKept (λ said. IsAnswer order said (S.left source.old) (S.left source.new) result.ended)
+    ensures kept { IsKept (λ said. IsAnswer options said (S.left source.old) (S.left source.new) result.ended)
         (K.held sink.old) (K.held sink.new) result.status }
     ensures judged { IfSome (S.left source.old) (IsJudged result.status) }
     ensures read_fault { Counts (result.status ≡ Status.ReadFault) (S.faults source.old) (S.faults source.new) }
@@ -144,10 +144,10 @@ fn run_read<R: Threads + Wait + Sync, S: Source, K: Sink, G: Gate>(
     ensures early { result.status ≡ Status.ReadFault
         → ConsumesAtMost (S.left source.old) (S.left source.new) MOST_INPUT }
 {
-    match answer_of(rt, alloc, order, source, gate) {
-        Ok(answer) => print(answer, sink),
-        Err(ReadError::Failed) => unrun(Status::ReadFault),
-        Err(ReadError::Memory) => unrun(Status::Memory),
+    match answer_of(rt, alloc, options, source, gate) {
+        Ok(answer) => print_answer(answer, sink),
+        Err(ReadError::Failed) => without_run(Status::ReadFault),
+        Err(ReadError::Memory) => without_run(Status::Memory),
     }
 }
 
@@ -160,8 +160,8 @@ fn make<K: Sink>(alloc: Global, number: u32, sink: &mut K) -> Kept
     ensures unwritten { result.status ≡ Status.Memory → (sink.new ≡ sink.old) × (result.ended ≡ None) }
 {
     match made_set(alloc, number) {
-        Ok(set) => put(sink, &set, Status::Done),
-        Err(AllocError) => unrun(Status::Memory),
+        Ok(set) => write_text(sink, &set, Status::Done),
+        Err(AllocError) => without_run(Status::Memory),
     }
 }
 
@@ -173,7 +173,7 @@ fn run_made<R: Threads + Wait + Sync, K: Sink, G: Gate>(
     sink: &mut K,
     gate: &G,
 ) -> Kept
-    ensures kept { IsKept (λ said. IsDue said (made_order number) (made number) result.ended)
+    ensures kept { IsKept (λ said. IsDue said (made_options number) (made number) result.ended)
         (K.held sink.old) (K.held sink.new) result.status }
     ensures judged { IsJudged result.status (made number) }
     ensures unread { result.status ≢ Status.ReadFault }
@@ -181,8 +181,8 @@ fn run_made<R: Threads + Wait + Sync, K: Sink, G: Gate>(
     ensures unwritten { result.status ≡ Status.Memory → (sink.new ≡ sink.old) × (result.ended ≡ None) }
 {
     match answer_to_made(rt, alloc, number, gate) {
-        Ok(answer) => print(answer, sink),
-        Err(AllocError) => unrun(Status::Memory),
+        Ok(answer) => print_answer(answer, sink),
+        Err(AllocError) => without_run(Status::Memory),
     }
 }
 
@@ -193,21 +193,21 @@ fn answer_to_made<R: Threads + Wait + Sync, G: Gate>(
     number: u32,
     gate: &G,
 ) -> Result<Answer, AllocError>
-    ensures due { IfOk result (λ answer. IsDue answer.verdict (made_order number) (made number)
+    ensures due { IfOk result (λ answer. IsDue answer.verdict (made_options number) (made number)
         (ended_of answer.due) (text_of answer.due)) }
     ensures printable { IfOk result (λ answer. IsPrintable answer.due) }
 {
-    let order = Order {
+    let options = RunOptions {
         turns: DEFAULT_TURNS,
         form: Form::Summary(number),
     };
     let set = made_set(alloc, number)?;
-    let answer = answer_to(rt, alloc, &set, order, gate)?;
+    let answer = answer_to(rt, alloc, &set, options, gate)?;
     Ok(answer)
 }
 
 // Writes what is due, and hands back what is left of a run.
-fn print<K: Sink>(answer: Answer, sink: &mut K) -> Kept
+fn print_answer<K: Sink>(answer: Answer, sink: &mut K) -> Kept
     requires { IsPrintable answer.due }
     ensures printed { IsPrinted (status_of answer.verdict) (text_of answer.due)
         (K.held sink.old) (K.held sink.new) result.status }
@@ -222,17 +222,17 @@ fn print<K: Sink>(answer: Answer, sink: &mut K) -> Kept
 }
 
 // Writes a text where no script was run.
-fn put<K: Sink>(sink: &mut K, text: &[u8], status: Status) -> Kept
+fn write_text<K: Sink>(sink: &mut K, text: &[u8], status: Status) -> Kept
     requires { status ≢ Status.WriteFault }
     ensures printed { IsPrinted status text.now (K.held sink.old) (K.held sink.new) result.status }
     ensures fault { Counts (result.status ≡ Status.WriteFault) (K.faults sink.old) (K.faults sink.new) }
     ensures ended { result.ended ≡ None }
 {
-    unrun(finish(write_all(sink, text), status))
+    without_run(finish(write_all(sink, text), status))
 }
 
 // No script was run.
-fn unrun(status: Status) -> Kept
+fn without_run(status: Status) -> Kept
     ensures { (result.status ≡ status) × (result.ended ≡ None) }
 {
     Kept {
@@ -245,11 +245,11 @@ fn unrun(status: Status) -> Kept
 fn answer_of<R: Threads + Wait + Sync, S: Source, G: Gate>(
     rt: &R,
     alloc: Global,
-    order: Order,
+    options: RunOptions,
     source: &mut S,
     gate: &G,
 ) -> Result<Answer, ReadError>
-    ensures due { IfOk result (λ answer. IsAnswer order answer.verdict
+    ensures due { IfOk result (λ answer. IsAnswer options answer.verdict
         (S.left source.old) (S.left source.new) (ended_of answer.due) (text_of answer.due)) }
     ensures printable { IfOk result (λ answer. IsPrintable answer.due) }
     ensures judged { IfOk result (λ answer.
@@ -261,7 +261,7 @@ fn answer_of<R: Threads + Wait + Sync, S: Source, G: Gate>(
         (S.faults source.old) (S.faults source.new) }
 {
     let bytes = read_all(alloc, MOST_INPUT + 1, source)?;
-    let answer = answer_to(rt, alloc, &bytes, order, gate)?;
+    let answer = answer_to(rt, alloc, &bytes, options, gate)?;
     Ok(answer)
 }
 

@@ -1,0 +1,1 @@
+-- Nothing is defined here: the contracts of `get`, `has` and `names` are in words of jo_guard and jo_model.

@@ -14,7 +14,7 @@ ghost use Rattle.jo_guard.specs.Ready.{IsReady};
 ghost use Rattle.jo_guard.specs.Placing.{HasPlaced};
 
 use jo_dict::{find, locate};
-use jo_guard::{let_go, wait_for_lock};
+use jo_guard::{release, wait_for_lock};
 use jo_model::{Call, NameList};
 use jo_rule::Event;
 use jo_steps::{Heap, Held, Pass};
@@ -31,7 +31,7 @@ pub fn get<R: Wait>(rt: &R, heap: &Heap, pass: &mut Pass, o: ObjId, key: Key) ->
 {
     let held = wait_for_lock(rt, heap, pass, o);
     let slot = look(heap, pass, &held, key);
-    let_go(heap, pass, held, Event::Place(Call::Get { object: o, key }));
+    release(heap, pass, held, Event::Place(Call::Get { object: o, key }));
     match slot {
         Slot::Holds(value) => value,
         Slot::Absent => Value::Undefined,
@@ -48,7 +48,7 @@ pub fn has<R: Wait>(rt: &R, heap: &Heap, pass: &mut Pass, o: ObjId, key: Key) ->
 {
     let held = wait_for_lock(rt, heap, pass, o);
     let slot = look(heap, pass, &held, key);
-    let_go(heap, pass, held, Event::Place(Call::Has { object: o, key }));
+    release(heap, pass, held, Event::Place(Call::Has { object: o, key }));
     match slot {
         Slot::Holds(_) => true,
         Slot::Absent => false,
@@ -65,7 +65,7 @@ pub fn names<R: Wait>(rt: &R, heap: &Heap, pass: &mut Pass, o: ObjId) -> NameLis
 {
     let held = wait_for_lock(rt, heap, pass, o);
     let names = jo_dict::names(heap, pass, &held);
-    let_go(heap, pass, held, Event::Place(Call::Names { object: o }));
+    release(heap, pass, held, Event::Place(Call::Names { object: o }));
     names
 }
 

@@ -28,7 +28,7 @@ use Rattle.jo_rule.specs.Dictionaries.{block_size, HasProperties}
 use Rattle.jo_rule.specs.Contents.{Role, Now, unborn_now, word_of_cell, is_born, Stands, HasWords}
 use Rattle.jo_rule.specs.Owned.{address_of}
 use Rattle.jo_rule.specs.Rule.{Rule}
-use Rattle.jo_rule.specs.Steps.{MayBear, born_cell, naming, bearing}
+use Rattle.jo_rule.specs.Steps.{MayBear, born_cell, with_named, with_birth}
 use Rattle.jo_rule.proofs.Lists.{no_item}
 use Rattle.jo_rule.proofs.Heaps.{passes-after, new-lengths, new-objects}
 use Rattle.jo_rule.proofs.Events.{after_new, event_valid, event_refuses, no_words, new_reply}
@@ -65,7 +65,7 @@ module _ {P : ℕ} {w : Words} {views : List View} (id : ℕ) (v : View) (r : Ru
 
   -- The next object of a pass is born, by a store to its cell word, which was 0. Its block is filled before.
   pub bears : (k room : ℕ) (counts : Counts) → P ≤ MOST_PASSES → MayBear v k room
-      → (w (cell (next_object v)) ≡ 0) × Rule P (put w (cell (next_object v)) (cell_bits (born_cell v.number (address_of v.number k)))) (set views id (bearing P v r.log (naming v.storage k (block_size room)) counts))
+      → (w (cell (next_object v)) ≡ 0) × Rule P (put w (cell (next_object v)) (cell_bits (born_cell v.number (address_of v.number k)))) (set views id (with_birth P v r.log (with_named v.storage k (block_size room)) counts))
       × IsBorn (after P (recorded P v.number (Place call.New) r.log)) (next_object v) × ((one (after P r.log) v.number call.New).1 ≡ reply.Made (next_object v))
   bears k room counts most may_bear =
       let capacity = may_bear.block.capacity in
@@ -78,7 +78,7 @@ module _ {P : ℕ} {w : Words} {views : List View} (id : ℕ) (v : View) (r : Ru
       let t = v.number in
       let o = next_object v in
       let c' = born_cell t (address_of t k) in
-      let u = bearing P v r.log (naming v.storage k (block_size room)) counts in
+      let u = with_birth P v r.log (with_named v.storage k (block_size room)) counts in
       let same = numbers_of v u refl refl refl refl refl refl in
       let own = r.owned.storage id v at l in
       let objects : v.births.objects ≡ length (objects_of (after P r.log) t) = r.owned.objects id v at l in

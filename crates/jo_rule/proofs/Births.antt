@@ -34,7 +34,7 @@ use Rattle.jo_rule.specs.Contents.{Now, unborn_now, word_of_cell, is_born, HasKe
 use Rattle.jo_rule.specs.Events.{recorded, MayPlace}
 use Rattle.jo_rule.specs.Owned.{structure_of, StructuresAreOwn}
 use Rattle.jo_rule.specs.Rule.{Rule}
-use Rattle.jo_rule.specs.Steps.{bearing}
+use Rattle.jo_rule.specs.Steps.{with_birth}
 use Rattle.jo_rule.specs.Views.{View, Lock}
 use Rattle.jo_rule.proofs.Lists.{no_item, live_set}
 use Rattle.jo_rule.proofs.Heaps.{passes-after, new-lengths, new-objects}
@@ -77,13 +77,13 @@ empty_keys v role z t o origin is = subst (λ (x : Shape). HasKeys v role false 
 module _ {P : ℕ} {w : Words} {views : List View} (id : ℕ) (v : View) (r : Rule P w views) (at : get_elem? views id ≡ some v) (l : v.live ≡ true) where
   -- The next object of a pass is born flat, by a store to its cell word, which was 0, where objects may be born so.
   pub bears_flat : (counts : Counts) → P ≤ MOST_PASSES → v.flat ≡ true → v.lock ≡ None → v.births.objects < MOST_OBJECTS
-      → (w (cell (next_object v)) ≡ 0) × Rule P (put w (cell (next_object v)) (cell_bits (flat_cell v.number))) (set views id (bearing P v r.log v.storage counts))
+      → (w (cell (next_object v)) ≡ 0) × Rule P (put w (cell (next_object v)) (cell_bits (flat_cell v.number))) (set views id (with_birth P v r.log v.storage counts))
       × IsBorn (after P (recorded P v.number (Place call.New) r.log)) (next_object v) × ((one (after P r.log) v.number call.New).1 ≡ reply.Made (next_object v))
   bears_flat counts most may_flat none_held few =
       let t = v.number in
       let o = next_object v in
       let c' = flat_cell t in
-      let u = bearing P v r.log v.storage counts in
+      let u = with_birth P v r.log v.storage counts in
       let same : SameItems v u = numbers_of v u refl refl refl refl refl refl in
       let own = r.owned.storage id v at l in
       let objects : v.births.objects ≡ length (objects_of (after P r.log) t) = r.owned.objects id v at l in

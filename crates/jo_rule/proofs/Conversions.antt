@@ -28,7 +28,7 @@ use Rattle.jo_rule.specs.Owned.{address_of, Owned, Unmade}
 use Rattle.jo_rule.specs.Locks.{Locks, IsHeld}
 use Rattle.jo_rule.specs.Events.{recorded, object_after_event, MayPlace, IsEventOn}
 use Rattle.jo_rule.specs.Rule.{Rule}
-use Rattle.jo_rule.specs.Steps.{no_sight, naming, IsFilled}
+use Rattle.jo_rule.specs.Steps.{no_sight, with_named, IsFilled}
 use Rattle.jo_rule.specs.Sights.{watched, IsFollowed, ViewIsSighted}
 use Rattle.jo_rule.proofs.Lists.{same_item, set_there}
 use Rattle.jo_rule.proofs.Sets.{cases_object, object_here, object_else}
@@ -218,7 +218,7 @@ module _ {P : ℕ} {w : Words} {views : List View} (id : ℕ) (v : View) (r : Ru
 
   -- The lock is let go: the object is a dictionary, in a block of the own storage that was filled with what the event leaves.
   pub releases_opened : (g : Lock) (event : Event) (k room : ℕ) (counts : Counts) → P ≤ MOST_PASSES → v.lock ≡ Some g → g.cell.kind ≡ Opening → g.settled ≡ true → MayPlace P v event → IsEventOn g.object event → IsFilled v.storage k room (object_after_event event g.content)
-      → Rule P (put w (cell g.object) (cell_bits (record g.cell { address = address_of v.number k; locked = false; kind = Dictionary }))) (set views id (leaving P v event r.log (naming v.storage k (block_size room)) counts))
+      → Rule P (put w (cell g.object) (cell_bits (record g.cell { address = address_of v.number k; locked = false; kind = Dictionary }))) (set views id (leaving P v event r.log (with_named v.storage k (block_size room)) counts))
   releases_opened g event k room counts most held kind sure may on filled =
       let o = g.object in
       let d = g.cell in
@@ -234,7 +234,7 @@ module _ {P : ℕ} {w : Words} {views : List View} (id : ℕ) (v : View) (r : Ru
       let settled : (r.now o).settled ≡ true = lk.settled ∙ sure in
       let role = named_roles r.role (address_of v.number k) room o in
       let now : Now = record (r.now o) { room = room } in
-      let u = leaving P v event r.log (naming v.storage k (block_size room)) counts in
+      let u = leaving P v event r.log (with_named v.storage k (block_size room)) counts in
       let same : SameItems v u = numbers_of v u refl refl refl refl refl refl in
       let log' = recorded P v.number event r.log in
       let touch = event_touches P v.number event r.log o on (born_of r o d lk.cell) in

@@ -1,4 +1,5 @@
--- What the rule gives when the first pass has taken in each other: one legal history, and the objects that it leaves.
+-- What the rule gives when the first pass has joined all others into itself: one legal history, and the objects that
+-- it leaves.
 use Rattle.std.proofs.Common.{◌≡◌, ◌≢◌, ◌+◌, ◌<◌, ◌≤◌, ℕ, zero, suc, Bool, true, false, cond, eqb, List, [], ◌∷◌, refl, sym, ap, ◌∙◌, subst, inl, inr, ⊎_elim, arith, length, slice_get, Option, Some, None}
 use mathlib.Core.Option.{some, some-injective}
 use lib.ListN.{get_elem?}

@@ -29,7 +29,7 @@ use Rattle.jo_rule.specs.Contents.{Now, is_keyed, is_flat, is_segmented, IsLoose
 use Rattle.jo_rule.specs.Views.{View, Pin, Licence, Sight, Lock, KnownWord}
 use Rattle.jo_rule.specs.Lists.{Each}
 use Rattle.jo_rule.specs.Rule.{Rule}
-use Rattle.jo_rule.specs.Steps.{pin_of, sighting, with_pin, with_licence, with_known, by_writes, by_transitions, by_both, with_fired}
+use Rattle.jo_rule.specs.Steps.{pin_of, with_sight, with_pin, with_licence, with_known, by_writes, by_transitions, by_both, with_fired}
 use Rattle.jo_rule.specs.Sights.{watched, Valued, Sees, IsTight, IsFollowed, IsPlain, HasStayed, Owning, IsRelied, Licensed, ByWrites, ByTransitions, ByLock, HasRight, IsKnown, told}
 use Rattle.jo_rule.proofs.Keys.{spot_cases}
 use Rattle.jo_rule.proofs.Contents.{standing}
@@ -202,15 +202,15 @@ knows_more {v} {shape} {role} {licences} {lock} {fired} known a word o y is role
 -- ---- steps
 
 module _ {P : ℕ} {w : Words} {views : List View} (id : ℕ) (v : View) (r : Rule P w views) (at : get_elem? views id ≡ some v) (l : v.live ≡ true) where
-  saw_all : (sight : Sight) (counts : Counts) → (let u = sighting v r.log sight counts in Rattle.jo_rule.proofs.Histories.SawMore r.log v u)
+  saw_all : (sight : Sight) (counts : Counts) → (let u = with_sight v r.log sight counts in Rattle.jo_rule.proofs.Histories.SawMore r.log v u)
   saw_all sight counts = record { calls = refl; more = r.histories.seen id v at l; seen = begins_itself r.log }
 
   -- A cell is loaded under a pin, which shows the whole log.
-  pub pins_cell : (o : ObjId) (c : Cell) (counts : Counts) → r.cell o ≡ Some c → v.time.out ≡ false → Rule P w (set views id (sighting v r.log (with_pin v.sight (pin_of o c (length r.log) (w epoch))) counts))
+  pub pins_cell : (o : ObjId) (c : Cell) (counts : Counts) → r.cell o ≡ Some c → v.time.out ≡ false → Rule P w (set views id (with_sight v r.log (with_pin v.sight (pin_of o c (length r.log) (w epoch))) counts))
   pins_cell o c counts cell inside =
       let p = pin_of o c (length r.log) (w epoch) in
       let sight = with_pin v.sight p in
-      let u = sighting v r.log sight counts in
+      let u = with_sight v r.log sight counts in
       let h = r.sights.each id v at l in
       let t = r.timing.timed id v at l in
       let st = standing r.contents o c cell in

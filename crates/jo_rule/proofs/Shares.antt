@@ -85,7 +85,7 @@ holding v log g expected e counts = record v {
   counts = counts;
 }
 
--- the lock was let go
+-- the lock was released
 abbrev pub leaving : ℕ → View → Event → Log Mark → Storage → Counts → View
 leaving passes v event log own counts = record v { past = past_after passes v.number event log v.past.calls; storage = own; sight = no_sight; lock = None; counts = counts }
 

@@ -104,7 +104,7 @@ module _ {P : ℕ} {w : Words} {views : List View} (id : ℕ) (v : View) (r : Ru
         counted = r.counted;
       }
 
-  -- a pass takes in another that holds no lock
+  -- a pass joins into itself another that holds no lock
   pub joins : (other : ℕ) (u : View) → get_elem? views other ≡ some u → id ≢ other → u.live ≡ true → u.lock ≡ None → Rule P w (set (set views id (joined v u)) other spent_view)
   joins other u at' ne lu none_held =
       let both = joined v u in

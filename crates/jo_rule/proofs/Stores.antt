@@ -26,7 +26,7 @@ use Rattle.jo_rule.specs.Histories.{Begins}
 use Rattle.jo_rule.specs.Contents.{unnamed, fixed, value, dictionary, word_of_cell, is_born}
 use Rattle.jo_rule.specs.Owned.{address_of}
 use Rattle.jo_rule.specs.Rule.{Rule}
-use Rattle.jo_rule.specs.Steps.{looking, placing, filling, writing}
+use Rattle.jo_rule.specs.Steps.{with_seen, with_placed, with_own_word, with_block_word}
 use Rattle.jo_model.proofs.ValidEdits.{within_most}
 use Rattle.jo_rule.proofs.Heaps.{born-longer, within_passes, passes-after, formed-after}
 use Rattle.jo_rule.proofs.Histories.{SameItems, SawMore, begins_itself, alone, numbers}
@@ -55,8 +55,8 @@ born_cell_by {A} (Some c) e f = f c refl
 
 module _ {P : ℕ} {w : Words} {views : List View} (id : ℕ) (v : View) (r : Rule P w views) (at : get_elem? views id ≡ some v) (l : v.live ≡ true) where
   -- a load shows the whole log, or as much of it as the pass says
-  pub loads : (seen : Log Mark) (counts : Counts) → Begins seen v.past.seen → Begins r.log seen → Rule P w (set views id (looking v seen counts))
-  loads seen counts more within = looks id v (looking v seen counts) r at l (numbers_of v (looking v seen counts) refl refl refl refl refl refl) (record { calls = refl; more = more; seen = within }) refl refl refl refl (r.sights.each id v at l) (r.timing.timed id v at l)
+  pub loads : (seen : Log Mark) (counts : Counts) → Begins seen v.past.seen → Begins r.log seen → Rule P w (set views id (with_seen v seen counts))
+  loads seen counts more within = looks id v (with_seen v seen counts) r at l (numbers_of v (with_seen v seen counts) refl refl refl refl refl refl) (record { calls = refl; more = more; seen = within }) refl refl refl refl (r.sights.each id v at l) (r.timing.timed id v at l)
 
   -- what a load of the cell of an object finds that is born in what was seen: the word of a cell, whose owner is the pass that made it
   pub finds_cell : (o : ObjId) → IsBorn (after P v.past.seen) o → (c : Cell) × IsCell c × (w (cell o) ≡ cell_bits c) × (c.owner ≡ o.pass)
@@ -101,26 +101,26 @@ module _ {P : ℕ} {w : Words} {views : List View} (id : ℕ) (v : View) (r : Ru
       and_from (nat_lt o.pass P) (nat_lt o.serial MOST_OBJECTS) (lt-ltb o.pass P (omega arith)) (lt-ltb o.serial MOST_OBJECTS (within_most (after P v.past.seen) o (formed-after P v.past.seen) born))
 
   -- a load that places a New of a pass which has made all its objects
-  pub refuses_new : (counts : Counts) → v.births.objects ≡ MOST_OBJECTS → Rule P w (set views id (placing P v (Place call.New) r.log counts))
+  pub refuses_new : (counts : Counts) → v.births.objects ≡ MOST_OBJECTS → Rule P w (set views id (with_placed P v (Place call.New) r.log counts))
   refuses_new counts full =
       let own = r.owned.objects id v at l in
       let objects = length (objects_of (after P r.log) v.number) in
       let spent : nat_lt objects MOST_OBJECTS ≡ false = le-ltb objects MOST_OBJECTS (omega arith) in
       let still : changes (after P r.log) v.number call.New ≡ false = rw spent refl in
       let stays : recorded P v.number (Place call.New) r.log ≡ r.log = ap (λ (b : Bool). if b then r.log ++ change v.number call.New ∷ [] else r.log) still in
-      let u = placing P v (Place call.New) r.log counts in
+      let u = with_placed P v (Place call.New) r.log counts in
       looks_event id v u r at l (numbers_of v u refl refl refl refl refl refl) (Place call.New) (λ c spent e. (let no : Place call.New ≡ Refuse c spent = e in absurd cc)) stays refl refl refl refl refl (r.sights.each id v at l) (r.timing.timed id v at l)
 
   -- a load that places a call which is refused for want of storage
-  pub refuses_spent : (c : Call) (spent : Spent) (counts : Counts) → MayPlace P v (Refuse c spent) → Rule P w (set views id (placing P v (Refuse c spent) r.log counts))
+  pub refuses_spent : (c : Call) (spent : Spent) (counts : Counts) → MayPlace P v (Refuse c spent) → Rule P w (set views id (with_placed P v (Refuse c spent) r.log counts))
   refuses_spent c spent counts may =
-      let u = placing P v (Refuse c spent) r.log counts in
+      let u = with_placed P v (Refuse c spent) r.log counts in
       looks_event id v u r at l (numbers_of v u refl refl refl refl refl refl) (Refuse c spent) (event_refuses P v (Refuse c spent) r.log (r.histories.own id v at l) may) refl refl refl refl refl refl (r.sights.each id v at l) (r.timing.timed id v at l)
 
   -- a word of the own storage is stored that no cell has named
-  pub fills : (k x : ℕ) (counts : Counts) → v.storage.named ≤ k → k < MOST_STORAGE → Rule P (put w (storage (address_of v.number k)) x) (set views id (filling v k x counts))
+  pub fills : (k x : ℕ) (counts : Counts) → v.storage.named ≤ k → k < MOST_STORAGE → Rule P (put w (storage (address_of v.number k)) x) (set views id (with_own_word v k x counts))
   fills k x counts from to =
-      let u = filling v k x counts in
+      let u = with_own_word v k x counts in
       let a = address_of v.number k in
       let own = r.owned.storage id v at l in
       let free : r.role a ≡ unnamed = own.nameless k from to in
@@ -142,10 +142,10 @@ module _ {P : ℕ} {w : Words} {views : List View} (id : ℕ) (v : View) (r : Ru
       (sighted_store (r.sights.each id v at l) (stored_at a) r.contents.words (λ q. cases_place q (stored_at a)) (stores_else w a x) no_value) (r.timing.timed id v at l)
 
   -- a word of the block of the held dictionary is stored, behind its header
-  pub writes : (g : Lock) (k x : ℕ) (counts : Counts) → v.lock ≡ Some g → g.cell.kind ≡ Dictionary → 0 < k → k < block_size g.room → Rule P (put w (storage (g.cell.address + k)) x) (set views id (writing v g k x counts))
+  pub writes : (g : Lock) (k x : ℕ) (counts : Counts) → v.lock ≡ Some g → g.cell.kind ≡ Dictionary → 0 < k → k < block_size g.room → Rule P (put w (storage (g.cell.address + k)) x) (set views id (with_block_word v g k x counts))
   writes g k x counts held kind from to =
       let g' : Lock = record g { block = slice_set g.block k x } in
-      let u = writing v g k x counts in
+      let u = with_block_word v g k x counts in
       let a = g.cell.address + k in
       let t = r.locks.held id v at l g held in
       let d = standing_dictionary r.contents g.object g.cell t.cell kind in

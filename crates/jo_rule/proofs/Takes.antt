@@ -1,4 +1,4 @@
--- The lock of a dictionary is taken, and let go with an event, in its block or in a new one.
+-- The lock of a dictionary is taken, and released with an event, in its block or in a new one.
 use Rattle.std.proofs.Common.{◌≡◌, ◌≢◌, ◌+◌, ◌*◌, ◌<◌, ◌≤◌, ℕ, zero, suc, true, false, List, [], ◌∷◌, refl, sym, ap, ◌∙◌, subst, inl, arith, length, set, Some, None}
 use mathlib.Core.Option.{some}
 use lib.ListN.{get_elem?}
@@ -23,9 +23,9 @@ use Rattle.jo_rule.specs.Events.{recorded, object_after_event}
 use Rattle.jo_rule.specs.Dictionaries.{block_size, dictionary_header, HasProperties}
 use Rattle.jo_rule.specs.Contents.{Role, unnamed, fixed, Now, StandsAsDictionary, HasWords}
 use Rattle.jo_rule.specs.Owned.{address_of, OwnsStorage}
-use Rattle.jo_rule.specs.Locks.{IsHeld, IsTaken}
+use Rattle.jo_rule.specs.Locks.{IsHeld, IsUnderLock}
 use Rattle.jo_rule.specs.Rule.{Rule}
-use Rattle.jo_rule.specs.Steps.{MayTry, MayLetGo, IsFilled, locked_cell, taken_lock, locking, naming, unlocked_cell, releasing, losing}
+use Rattle.jo_rule.specs.Steps.{MayTry, MayRelease, IsFilled, locked_cell, taken_lock, with_taken_lock, with_named, unlocked_cell, without_lock, with_lost_try}
 use Rattle.jo_model.proofs.WellFormed.{object-at}
 use Rattle.jo_model.proofs.ValidEdits.{object_valid}
 use Rattle.jo_rule.proofs.Heaps.{formed-after}
@@ -47,7 +47,7 @@ use Rattle.jo_rule.proofs.Stores.{numbers_of, saw_same}
 same_roles : {P : ℕ} {s : ℕ → ℕ} {pass : ℕ} {role : ℕ → Role} → ((a : ℕ) → role a ≢ unnamed → a < MOST_STORAGE * P) → RolesGrow P s pass role role
 same_roles inside = record { grows = λ a n. refl; still = λ a z f. inl f; inside = inside; elsewhere = λ t k n lt. refl }
 
--- so many words of an area, from one on
+-- the first n words of an area
 pub words_read : ℕ → (ℕ → ℕ) → List ℕ
 words_read zero f = []
 words_read (suc n) f = f 0 ∷ words_read n (λ k. f (suc k))
@@ -73,19 +73,19 @@ module _ {P : ℕ} {w : Words} {views : List View} (id : ℕ) (v : View) (r : Ru
       both_ways c.locked free (ap (λ (x : Cell). x.locked) (sym one) ∙ t.bit)
 
   -- a pass that holds no lock tries to take one where it expects an unlocked dictionary, and the exchange finds another word
-  pub loses : (o : ObjId) (expected : Cell) (counts : Counts) → MayTry v expected → w (cell o) ≢ cell_bits expected → Rule P w (set views id (losing v o expected counts))
+  pub loses : (o : ObjId) (expected : Cell) (counts : Counts) → MayTry v expected → w (cell o) ≢ cell_bits expected → Rule P w (set views id (with_lost_try v o expected counts))
   loses o expected counts may other =
-      looks id v (losing v o expected counts) r at l (numbers_of v (losing v o expected counts) refl refl refl refl refl refl) (saw_same r.log v (losing v o expected counts) (r.histories.seen id v at l) refl) refl refl refl refl (r.sights.each id v at l) (r.timing.timed id v at l)
+      looks id v (with_lost_try v o expected counts) r at l (numbers_of v (with_lost_try v o expected counts) refl refl refl refl refl refl) (saw_same r.log v (with_lost_try v o expected counts) (r.histories.seen id v at l) refl) refl refl refl refl (r.sights.each id v at l) (r.timing.timed id v at l)
 
   -- what the holder of a lock knows is the object after the log
   pub holds_content : (g : Lock) → v.lock ≡ Some g → g.settled ≡ true → object_of (after P r.log) g.object ≡ g.content
   holds_content g held settled = (r.locks.held id v at l g held).content settled
 
   -- The lock of an object is taken by an exchange of its cell, which was not locked. The view then has the object's
-  -- content, and the words of its block, and is told what `IsTaken` says of them.
+  -- content, and the words of its block, and is told what `IsUnderLock` says of them.
   pub takes : (o : ObjId) (c : Cell) (counts : Counts) → MayTry v c → w (cell o) ≡ cell_bits c
-      → (content : Object) × (room : ℕ) × (block : List ℕ) × (since : ℕ) × Rule P (put w (cell o) (cell_bits (locked_cell c))) (set views id (locking v r.log (taken_lock o c content room block since) c counts))
-      × IsTaken (after P r.log) o content room (slice_index block)
+      → (content : Object) × (room : ℕ) × (block : List ℕ) × (since : ℕ) × Rule P (put w (cell o) (cell_bits (locked_cell c))) (set views id (with_taken_lock v r.log (taken_lock o c content room block since) c counts))
+      × IsUnderLock (after P r.log) o content room (slice_index block)
   takes o c counts may word =
       let none_held = may.no_lock in
       let is = may.is_cell in
@@ -100,7 +100,7 @@ module _ {P : ℕ} {w : Words} {views : List View} (id : ℕ) (v : View) (r : Ru
       let read : (k : ℕ) → k < block_size room → slice_index block k ≡ stored w (c.address + k) = λ k lt. read_word (block_size room) (λ k. stored w (c.address + k)) k lt in
       let since = (r.now o).sealed in
       let g = taken_lock o c content room block since in
-      let u = locking v r.log g c counts in
+      let u = with_taken_lock v r.log g c counts in
       let c' = locked_cell c in
       let same = numbers_of v u refl refl refl refl refl refl in
       let holder = set_object r.locks.holder o id in (
@@ -144,11 +144,11 @@ module _ {P : ℕ} {w : Words} {views : List View} (id : ℕ) (v : View) (r : Ru
         },
       )
 
-  -- the lock is let go, and the object stands as a dictionary with what the event left
-  releases_by : (g : Lock) (event : Event) (address room : ℕ) (role : ℕ → Role) (own : Storage) (counts : Counts) → MayLetGo P v g event → IsCell (unlocked_cell g.cell address)
+  -- the lock is released, and the object stands as a dictionary with what the event left
+  releases_by : (g : Lock) (event : Event) (address room : ℕ) (role : ℕ → Role) (own : Storage) (counts : Counts) → MayRelease P v g event → IsCell (unlocked_cell g.cell address)
       → RolesGrow P (stored w) v.number r.role role → OwnsStorage (stored w) role v.number own
       → StandsAsDictionary (stored w) role g.object (unlocked_cell g.cell address) (record (r.now g.object) { room = room }) (object_after_event event g.content)
-      → Rule P (put w (cell g.object) (cell_bits (unlocked_cell g.cell address))) (set views id (releasing P v event r.log own counts))
+      → Rule P (put w (cell g.object) (cell_bits (unlocked_cell g.cell address))) (set views id (without_lock P v event r.log own counts))
   releases_by g event address room role own counts goes is roles owns stands =
       let held = goes.held in
       let kind = goes.kind in
@@ -160,7 +160,7 @@ module _ {P : ℕ} {w : Words} {views : List View} (id : ℕ) (v : View) (r : Ru
       let d = dictionary_of s kind in
       let c' = unlocked_cell g.cell address in
       let now' : Now = record (r.now o) { room = room } in
-      let u = releasing P v event r.log own counts in
+      let u = without_lock P v event r.log own counts in
       let same = numbers_of v u refl refl refl refl refl refl in
       let log' = recorded P v.number event r.log in
       let touch = event_touches P v.number event r.log o on (born_of r o g.cell t.cell) in
@@ -188,8 +188,8 @@ module _ {P : ℕ} {w : Words} {views : List View} (id : ℕ) (v : View) (r : Ru
       r.so (born_so_event P v.number event r.log (born_so_cell r.born_so o c' g.cell t.cell refl)) (λ h. r.marked.shared o g.cell t.cell h) (counts_dictionary o r.shape c' (ap is_dictionary kind) (λ q n. event_elsewhere P v.number r.log event o q on n)) (timed_dropped (r.timing.timed id v at l))
 
   -- in the block that was held, whose words have the properties that the event left
-  pub releases : (g : Lock) (event : Event) (counts : Counts) → MayLetGo P v g event → HasProperties (slice_index g.block) g.room (object_after_event event g.content)
-      → Rule P (put w (cell g.object) (cell_bits (unlocked_cell g.cell g.cell.address))) (set views id (releasing P v event r.log v.storage counts))
+  pub releases : (g : Lock) (event : Event) (counts : Counts) → MayRelease P v g event → HasProperties (slice_index g.block) g.room (object_after_event event g.content)
+      → Rule P (put w (cell g.object) (cell_bits (unlocked_cell g.cell g.cell.address))) (set views id (without_lock P v event r.log v.storage counts))
   releases g event counts goes has =
       let held = goes.held in
       let kind = goes.kind in
@@ -208,8 +208,8 @@ module _ {P : ℕ} {w : Words} {views : List View} (id : ℕ) (v : View) (r : Ru
       }
 
   -- in a new block of the own storage, which then is named
-  pub releases_moved : (g : Lock) (event : Event) (k room : ℕ) (counts : Counts) → P ≤ MOST_PASSES → MayLetGo P v g event → IsFilled v.storage k room (object_after_event event g.content)
-      → Rule P (put w (cell g.object) (cell_bits (unlocked_cell g.cell (address_of v.number k)))) (set views id (releasing P v event r.log (naming v.storage k (block_size room)) counts))
+  pub releases_moved : (g : Lock) (event : Event) (k room : ℕ) (counts : Counts) → P ≤ MOST_PASSES → MayRelease P v g event → IsFilled v.storage k room (object_after_event event g.content)
+      → Rule P (put w (cell g.object) (cell_bits (unlocked_cell g.cell (address_of v.number k)))) (set views id (without_lock P v event r.log (with_named v.storage k (block_size room)) counts))
   releases_moved g event k room counts most goes filled =
       let held = goes.held in
       let kind = goes.kind in
@@ -226,5 +226,5 @@ module _ {P : ℕ} {w : Words} {views : List View} (id : ℕ) (v : View) (r : Ru
       let few = r.histories.few in
       let all = own.used in
       let c' = unlocked_cell g.cell (address_of v.number k) in
-      releases_by g event (address_of v.number k) room (named_roles r.role (address_of v.number k) room o) (naming v.storage k (block_size room)) counts goes (record { sid = s.cell.sid; address = omega arith; owner = s.cell.owner })
+      releases_by g event (address_of v.number k) room (named_roles r.role (address_of v.number k) room o) (with_named v.storage k (block_size room)) counts goes (record { sid = s.cell.sid; address = omega arith; owner = s.cell.owner })
       (record { grows = named_grows own o k room from to; still = named_still own o k room from to head; inside = named_inside own o k room from to P (omega arith) r.contents.inside; elsewhere = named_elsewhere own o k room from to }) (named_own own o k room from to) (named_stands own o k room from to c' (r.now o) (object_after_event event g.content) (dictionary_of s kind).settled capacity refl has)

@@ -27,7 +27,7 @@ is_same_word _ _ = false
 abbrev pub Words : Type 0
 Words = WordName → ℕ
 
--- the words of a table of so many passes; 0 for a name that is of none of its words
+-- the words of a table of `passes` passes; 0 for a name that is of none of its words
 abbrev pub words_of : ℕ → List ℕ → Words
 words_of passes ws n = if is_word passes n then slice_index ws (word_at passes n) else 0
 

@@ -129,7 +129,7 @@ pub record HasWords (z : Object) : Type 0 where
   pub names : All (λ p. IsNameWord p.0 × IsSlot (Holds p.1)) z.names
   pub elements : All (λ p. IsSlot (Holds p.1)) z.elements
 
--- Every object, in a heap of so many passes. Word 0 of storage is 0 for ever, so no block is there.
+-- Every object, in a heap of `passes` passes. Word 0 of storage is 0 for ever, so no block is there.
 pub record Contents (passes : ℕ) (v : Location → ℕ) (cells : ObjId → Option Cell) (shape : Sid → Shape) (role : ℕ → Role) (now : ObjId → Now) (heap : Heap) : Type 0 where
   pub stands : (o : ObjId) → Stands v role shape o (cells o) (now o) (object_of heap o)
   pub born : (o : ObjId) → is_born (cells o) ≡ nat_lt o.serial (length (objects_of heap o.pass))

@@ -1,4 +1,4 @@
--- What is known at the end, when the first pass has taken in each other.
+-- What is known at the end, when the first pass has joined all others into itself.
 use Rattle.std.specs.Prelude.{◌≡◌, ◌≢◌, ◌⊎◌, true, map, Option, Some, ℕ, ◌+◌, ◌<◌, ◌==◌, zero, suc, if◌then◌else◌, List, [], ◌∷◌, None, ◌≤◌, false}
 use mathlib.Core.Option.{some}
 use lib.ListN.{get_elem?}
@@ -41,7 +41,7 @@ abbrev pub kept_calls : List Kept → ℕ → List PlacedCall
 kept_calls [] t = []
 kept_calls (q ∷ kept) t = if q.number == t then q.calls else kept_calls kept t
 
--- the calls of the pass t, by the view that has taken in each other
+-- the calls of the pass t, by the view into which all others were joined
 abbrev pub calls_of_pass : View → ℕ → List PlacedCall
 calls_of_pass v t = if v.number == t then v.past.calls else kept_calls v.kept t
 

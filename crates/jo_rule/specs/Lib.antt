@@ -1,3 +1,5 @@
+-- To be believed: Views and Ending, with Names and Marks for their types. Whoever makes calls has to believe Tidy
+-- too, and what contracts cite of Histories, Events, Steps and Dictionaries. The others serve the steps and the proof.
 pub mod Names
 pub mod Areas
 pub mod Marks

@@ -4,8 +4,8 @@ use Rattle.jo_value.specs.declared.value.ObjId.{ObjId}
 use Rattle.jo_value.specs.declared.value.Value.{Value}
 use Rattle.jo_value.specs.declared.value.Value.TheVariants as value
 use Rattle.jo_value.specs.Texts.{Table}
-use Rattle.jo_tree.specs.Trees.{Items}
-use Rattle.jo_grammar.specs.Sound.{IsSound}
+use Rattle.jo_parse_tree.specs.Trees.{Items}
+use Rattle.jo_parse_grammar.specs.Sound.{IsSound}
 use Rattle.jo_model.specs.declared.call.Call.{Call}
 use Rattle.jo_model.specs.declared.call.Call.TheVariants as call
 use Rattle.jo_model.specs.declared.call.Reply.{Reply}

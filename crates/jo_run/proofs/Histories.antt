@@ -1,10 +1,10 @@
--- From the jobs that were run, and were taken in by the first pass, to the history of the set.
+-- From the jobs that were run, and whose passes were joined into the first one, to the history of the set.
 use Rattle.std.proofs.Common.{◌≡◌, ℕ, zero, suc, ◌+◌, ◌<◌, false, eqb, List, [], length, map, slice_get, Some, sym, ap, ◌∙◌, subst, arith}
 use Rattle.std.specs.Prelude.{All}
 use Rattle.std.proofs.lemmas.Bool.{ne_eqb}
 use Rattle.std.proofs.lemmas.Option.{slice_get_within}
 use Rattle.jo_value.specs.Texts.{Table}
-use Rattle.jo_tree.specs.Trees.{Items}
+use Rattle.jo_parse_tree.specs.Trees.{Items}
 use Rattle.jo_model.specs.declared.call.Reply.{Reply}
 use Rattle.jo_model.specs.History.{IsLegal, calls_of, replies_of}
 use Rattle.jo_rule.specs.Ending.{calls_of_pass}
@@ -17,11 +17,11 @@ use Rattle.jo_run.specs.Scripts.{calls_in, replies_in, ExpectsDictionary}
 use Rattle.jo_run.specs.Sets.{HaveRun, outcomes_of, ReadsLockOnlyDictionaries, ReadsLockDictionariesAlone}
 use Rattle.jo_run.specs.declared.jobs.Job.{Job}
 use Rattle.jo_run.specs.declared.set.EndedScript.{EndedScript}
-use Rattle.jo_run.specs.inner.Jobs.{Left, left_in, left_of, kept_of_job}
+use Rattle.jo_run.specs.inner.Jobs.{ScriptEnd, end_of_script, end_of_job, kept_of_job}
 use Rattle.jo_run.proofs.Places.{there, all_at, at_map, from_map, len_map, listed_there, kept_there, IsKeptOf}
 use Rattle.jo_run.proofs.Ran.{AreOver}
 
--- ---- the passes of scripts, in the view that has taken them in
+-- ---- the passes of scripts, in the view into which they were joined
 
 -- it has placed nothing, and keeps the passes of the jobs
 pub record KeepsAll (jobs : List Job) (v : View) : Type 0 where
@@ -44,7 +44,7 @@ of_others v t q number is =
     (rw other is.calls, rw other is.counts, rw other is.tries)
 
 module _ (scripts : List Items) (texts : Table) (turns : ℕ) (jobs : List Job) (over : AreOver scripts texts turns jobs)
-    (ended : List EndedScript) (left : map left_in ended ≡ map left_of jobs)
+    (ended : List EndedScript) (left : map end_of_script ended ≡ map end_of_job jobs)
     (closed : ClosedHeap) (passes : closed.passes ≡ suc (length scripts)) (keeps : KeepsAll jobs closed.view) (whole : IsOneHistory closed) where
   -- the job of each script
   job_of : (k : ℕ) (script : Items) → slice_get scripts k ≡ Some script → (job : Job) × (slice_get jobs k ≡ Some job)
@@ -105,14 +105,14 @@ module _ (scripts : List Items) (texts : Table) (turns : ℕ) (jobs : List Job) 
 
   -- ---- what is left of the scripts
 
-  left_at : (k : ℕ) (e : EndedScript) → slice_get ended k ≡ Some e → (job : Job) × (slice_get jobs k ≡ Some job) × (left_of job ≡ left_in e)
-  left_at k e at = from_map left_of jobs k (left_in e) (ap (λ (l : List Left). slice_get l k) (sym left) ∙ at_map left_in ended k e at)
+  left_at : (k : ℕ) (e : EndedScript) → slice_get ended k ≡ Some e → (job : Job) × (slice_get jobs k ≡ Some job) × (end_of_job job ≡ end_of_script e)
+  left_at k e at = from_map end_of_job jobs k (end_of_script e) (ap (λ (l : List ScriptEnd). slice_get l k) (sym left) ∙ at_map end_of_script ended k e at)
 
-  ended_at : (k : ℕ) (job : Job) → slice_get jobs k ≡ Some job → (e : EndedScript) × (slice_get ended k ≡ Some e) × (left_in e ≡ left_of job)
-  ended_at k job at = from_map left_in ended k (left_of job) (ap (λ (l : List Left). slice_get l k) left ∙ at_map left_of jobs k job at)
+  ended_at : (k : ℕ) (job : Job) → slice_get jobs k ≡ Some job → (e : EndedScript) × (slice_get ended k ≡ Some e) × (end_of_script e ≡ end_of_job job)
+  ended_at k job at = from_map end_of_script ended k (end_of_job job) (ap (λ (l : List ScriptEnd). slice_get l k) left ∙ at_map end_of_job jobs k job at)
 
   as_many : length ended ≡ length scripts
-  as_many = sym (len_map left_in ended) ∙ (ap length left ∙ (len_map left_of jobs ∙ over.all))
+  as_many = sym (len_map end_of_script ended) ∙ (ap length left ∙ (len_map end_of_job jobs ∙ over.all))
 
   history : IsHistoryOf scripts texts turns (outcomes_of ended) (history_left closed)
   history =
@@ -125,7 +125,7 @@ module _ (scripts : List Items) (texts : Table) (turns : ℕ) (jobs : List Job) 
             let job = job_of k script s in
             let e = ended_at k job.0 job.1 in (
               job.0.outcome,
-              at_map (λ (e : EndedScript). e.outcome) ended k e.0 e.1 ∙ ap (λ (l : Left). Some l.outcome) e.2,
+              at_map (λ (e : EndedScript). e.outcome) ended k e.0 e.1 ∙ ap (λ (l : ScriptEnd). Some l.outcome) e.2,
               is_run k script job.0 s job.1,
             );
       }
@@ -153,10 +153,10 @@ module _ (scripts : List Items) (texts : Table) (turns : ℕ) (jobs : List Job) 
         lines = λ k script e s at.
             let job = left_at k e at in
             let is = over.each k script job.0 s job.1 in
-            sym (ap (λ (l : Left). l.lines) job.2) ∙ (is.printed ∙ ap (λ (r : Run). r.lines) (sym (run_of k script job.0 job.1)));
+            sym (ap (λ (l : ScriptEnd). l.lines) job.2) ∙ (is.printed ∙ ap (λ (r : Run). r.lines) (sym (run_of k script job.0 job.1)));
         counts = λ k e at.
             let job = left_at k e at in
             let up : k + 1 ≡ suc k = omega arith in
-            sym (ap (λ (l : Left). l.counts) job.2) ∙ (sym (of_job k job.0 job.1).counts ∙ ap (counts_of_pass closed.view) (sym up));
+            sym (ap (λ (l : ScriptEnd). l.counts) job.2) ∙ (sym (of_job k job.0 job.1).counts ∙ ap (counts_of_pass closed.view) (sym up));
         reads = reads;
       }

@@ -1,9 +1,9 @@
--- What jobs are before they run, after it, and when the first pass has taken them in.
+-- What jobs are before they run, after it, and when their passes were joined into the first one.
 use Rattle.std.proofs.Common.{◌≡◌, ℕ, suc, ◌-◌, ◌<◌, List, ◌++◌, length, map, slice_get, Some, None, refl, sym, ap, ◌∙◌, subst, arith}
 use Rattle.std.specs.Prelude.{All}
 use Rattle.std.proofs.lemmas.Option.{slice_get_within}
 use Rattle.jo_value.specs.Texts.{Table}
-use Rattle.jo_tree.specs.Trees.{Items}
+use Rattle.jo_parse_tree.specs.Trees.{Items}
 use Rattle.jo_model.specs.Placed.{PlacedCall}
 use Rattle.jo_value.specs.declared.capacities.TheConstants.{UNSTAMPED}
 use Rattle.jo_rule.specs.Ending.{HasJoinedAll}

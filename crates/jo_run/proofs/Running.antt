@@ -3,8 +3,8 @@ use Rattle.std.proofs.Common.{◌≡◌, ◌∙◌, ℕ, List, [], ◌∷◌, �
 use Rattle.std.proofs.lemmas.List.{append_assoc}
 use Rattle.std.proofs.lemmas.List.Elements.{All-nil, All-append, All-weaker}
 use Rattle.jo_value.specs.Texts.{Table}
-use Rattle.jo_tree.specs.Trees.{Items}
-use Rattle.jo_grammar.specs.Sound.{IsSound}
+use Rattle.jo_parse_tree.specs.Trees.{Items}
+use Rattle.jo_parse_grammar.specs.Sound.{IsSound}
 use Rattle.jo_model.specs.declared.call.Call.{Call}
 use Rattle.jo_model.specs.declared.call.Outcome.{Outcome}
 use Rattle.jo_model.specs.declared.call.Reply.{Reply}

@@ -1,10 +1,10 @@
--- The first pass takes in one more, and the list of what is left of scripts has one more.
+-- The first pass joins one more into itself, and the list of what is left of scripts has one more.
 use Rattle.std.proofs.Common.{◌≡◌, List, [], ◌∷◌, ◌++◌, map, refl, sym, ap, ◌∙◌, append_assoc}
 use Rattle.jo_rule.specs.Steps.{joined}
 use Rattle.jo_rule.specs.Views.{View, Kept}
 use Rattle.jo_run.specs.declared.jobs.Job.{Job}
 use Rattle.jo_run.specs.declared.set.EndedScript.{EndedScript}
-use Rattle.jo_run.specs.inner.Jobs.{StaysFirst, kept_of_job, Left, left_in, left_of}
+use Rattle.jo_run.specs.inner.Jobs.{StaysFirst, kept_of_job, ScriptEnd, end_of_script, end_of_job}
 
 map_more : {A B : Type 0} (f : A → B) (xs : List A) (x : A) → map f (xs ++ x ∷ []) ≡ map f xs ++ f x ∷ []
 map_more f [] x = refl
@@ -30,8 +30,8 @@ module _ (first v y : View) (job : Job) (joins : y ≡ joined v job.pass.view) w
       ∙ (ap (λ (l : List Kept). v.kept ++ kept_of_job job ∷ l) alone ∙ behind kept_of_job first.kept jobs job v.kept kept)
 
 -- what is left of one more script
-pub left_more : (before now all : List EndedScript) (e : EndedScript) (jobs : List Job) (job : Job) → left_in e ≡ left_of job → all ≡ now ++ e ∷ []
-    → map left_in now ≡ map left_in before ++ map left_of jobs → map left_in all ≡ map left_in before ++ map left_of (jobs ++ job ∷ [])
+pub left_more : (before now all : List EndedScript) (e : EndedScript) (jobs : List Job) (job : Job) → end_of_script e ≡ end_of_job job → all ≡ now ++ e ∷ []
+    → map end_of_script now ≡ map end_of_script before ++ map end_of_job jobs → map end_of_script all ≡ map end_of_script before ++ map end_of_job (jobs ++ job ∷ [])
 left_more before now all e jobs job is more so_far =
-    ap (map left_in) more
-    ∙ (map_more left_in now e ∙ (ap (λ (x : Left). map left_in now ++ x ∷ []) is ∙ behind left_of (map left_in before) jobs job (map left_in now) so_far))
+    ap (map end_of_script) more
+    ∙ (map_more end_of_script now e ∙ (ap (λ (x : ScriptEnd). map end_of_script now ++ x ∷ []) is ∙ behind end_of_job (map end_of_script before) jobs job (map end_of_script now) so_far))

@@ -5,7 +5,7 @@ use Rattle.std.specs.List.{remove}
 use Rattle.std.proofs.lemmas.Bool.{ne_eqb}
 use Rattle.std.proofs.lemmas.Option.{slice_get_within}
 use Rattle.jo_value.specs.Texts.{Table}
-use Rattle.jo_tree.specs.Trees.{Items}
+use Rattle.jo_parse_tree.specs.Trees.{Items}
 use Rattle.jo_rule.specs.Ending.{HasJoinedAll}
 use Rattle.jo_rule.specs.Views.{View}
 use Rattle.jo_steps.specs.Views.{HeapView, PassView, IsPassOf}
@@ -18,7 +18,7 @@ use Rattle.jo_run.specs.Sets.{HaveRun}
 use Rattle.jo_run.specs.declared.jobs.Job.{Job}
 use Rattle.jo_run.specs.declared.set.EndedScript.{EndedScript}
 use Rattle.jo_run.specs.inner.Begun.{AreAtCodes, AreAtStart, AreCodesOf}
-use Rattle.jo_run.specs.inner.Jobs.{IsReadyJob, HaveRunJobs, MayJoin, StaysFirst, kept_of_job, left_in, left_of}
+use Rattle.jo_run.specs.inner.Jobs.{IsReadyJob, HaveRunJobs, MayJoin, StaysFirst, kept_of_job, end_of_script, end_of_job}
 use Rattle.jo_run.proofs.Places.{there, all_there, at_map, len_map}
 use Rattle.jo_run.proofs.Ran.{AreNew, fresh_view, ready_jobs, may_join, joined_all, over}
 use Rattle.jo_run.proofs.Histories.{have_run}
@@ -100,7 +100,7 @@ module _ (h : HeapView) (passes : List PassView) (machines : List Machine) (open
             (stays.lock ∙ ap (λ (v : View). v.lock) first_opened.1)
 
         -- what is left
-        pub have_ended : (ended : List EndedScript) (closed : ClosedHeap) → map left_in ended ≡ map left_of after → (closed.passes ≡ h.passes) × (closed.view ≡ u) → IsOneHistory closed
+        pub have_ended : (ended : List EndedScript) (closed : ClosedHeap) → map end_of_script ended ≡ map end_of_job after → (closed.passes ≡ h.passes) × (closed.view ≡ u) → IsOneHistory closed
             → (scripts : List Items) (texts : Table) (turns : ℕ) → AreAtStart scripts texts turns machines → HaveRun scripts texts turns ended closed
         have_ended ended closed left closes whole scripts texts turns begun =
             let len = begun.all in

@@ -2,8 +2,8 @@
 use Rattle.std.specs.Prelude.{◌≡◌, ℕ, List, ◌++◌, map, All}
 use Rattle.jo_value.specs.Texts.{Table}
 use Rattle.jo_value.specs.declared.words.cell.Kind.TheVariants.{Dictionary}
-use Rattle.jo_tree.specs.Trees.{Items}
-use Rattle.jo_grammar.specs.Sound.{IsSound}
+use Rattle.jo_parse_tree.specs.Trees.{Items}
+use Rattle.jo_parse_grammar.specs.Sound.{IsSound}
 use Rattle.jo_model.specs.declared.call.Call.{Call}
 use Rattle.jo_model.specs.declared.call.Outcome.{Outcome}
 use Rattle.jo_model.specs.declared.call.Reply.{Reply}
@@ -14,7 +14,7 @@ use Rattle.jo_meaning.specs.Runs.{Interaction, follow, Ended}
 use Rattle.jo_meaning.specs.Scripts.{interaction_of}
 use Rattle.jo_vm.specs.Machines.{Machine, Free, stands}
 
--- a machine at the start of a sound script, with so many turns
+-- a machine at the start of a sound script, with `turns` turns
 pub record IsAtStart (script : Items) (texts : Table) (turns : ℕ) (m : Machine) : Type 0 where
   pub sound : IsSound texts script
   pub begins : stands m ≡ Free (interaction_of script texts turns)

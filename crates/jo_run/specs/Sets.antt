@@ -2,7 +2,7 @@
 use Rattle.std.specs.Prelude.{◌≡◌, ℕ, ◌+◌, ◌<◌, List, length, map, slice_get, Some}
 use Rattle.jo_value.specs.Texts.{Table}
 use Rattle.jo_value.specs.declared.words.cell.Kind.TheVariants.{Dictionary}
-use Rattle.jo_tree.specs.Trees.{Items}
+use Rattle.jo_parse_tree.specs.Trees.{Items}
 use Rattle.jo_model.specs.declared.call.Call.{Call}
 use Rattle.jo_model.specs.declared.call.Call.TheVariants as call
 use Rattle.jo_model.specs.declared.call.Outcome.{Outcome}
@@ -39,9 +39,10 @@ ReadsLockOnlyDictionaries closed =
 abbrev pub outcomes_of : List EndedScript → List Outcome
 outcomes_of ended = map (λ e. e.outcome) ended
 
--- A set of scripts was run, each script with so many turns. The history that is left is one of these scripts, to these outcomes; it
--- has the calls that the passes placed, once each and no others, and the objects that are left are those after it. The lines of a
--- script are those that its meaning gives there, and its counts those of its pass. Reads locked dictionaries alone.
+-- A set of scripts was run, each script with `turns` turns. The history that is left is one of these scripts, to these
+-- outcomes; it has the calls that the passes placed, once each and no others, and the objects that are left are those
+-- after it. The lines of a script are those that its meaning gives there, and its counts those of its pass. Reads
+-- locked dictionaries alone.
 pub record HaveRun (scripts : List Items) (texts : Table) (turns : ℕ) (ended : List EndedScript) (closed : ClosedHeap) : Type 0 where
   pub passes : closed.passes ≡ length scripts + 1
   pub history : IsHistoryOf scripts texts turns (outcomes_of ended) (history_left closed)

@@ -2,7 +2,7 @@
 ghost use Rattle.std.specs.Prelude.{◌≡◌, ℕ, ◌+◌, ◌++◌, ◌<◌, ◌≤◌, [], All, length, map};
 ghost use Rattle.std.specs.Vec.{vec_capacity};
 ghost use Rattle.jo_steps.specs.Views.{IsPassOf};
-ghost use Rattle.jo_run.specs.inner.Jobs.{HasRunJob, HaveRunJobs, IsReadyJob, MayJoin, StaysFirst, kept_of_job, left_in, left_of};
+ghost use Rattle.jo_run.specs.inner.Jobs.{HasRunJob, HaveRunJobs, IsReadyJob, MayJoin, StaysFirst, kept_of_job, end_of_script, end_of_job};
 
 use crate::{EndedScript, Gate, run_script};
 use jo_heap::join;
@@ -46,12 +46,7 @@ fn run_job<R: Wait, G: Gate>(rt: &R, heap: &Heap, job: &mut Job<'_>, gate: &G)
 }
 
 // Runs these, each in a thread of its own.
-fn run_beside<R: Threads + Wait + Sync, G: Gate>(
-    rt: &R,
-    heap: &Heap,
-    jobs: &mut [Job<'_>],
-    gate: &G,
-)
+fn run_slice<R: Threads + Wait + Sync, G: Gate>(rt: &R, heap: &Heap, jobs: &mut [Job<'_>], gate: &G)
     requires some { 0 < length jobs.old }
     requires ready { All (IsReadyJob heap.now) jobs.old }
     ensures { HaveRunJobs heap.now jobs.old jobs.new }
@@ -79,11 +74,12 @@ pub(crate) fn run_jobs<R: Threads + Wait + Sync, G: Gate>(
     requires ready { All (IsReadyJob heap.now) jobs.old.items }
     ensures { HaveRunJobs heap.now jobs.old.items jobs.new.items }
 {
-    run_beside(rt, heap, jobs.as_mut_slice(), gate);
+    run_slice(rt, heap, jobs.as_mut_slice(), gate);
 }
 
-/// The first pass takes in the pass of each job, in order of number. What is left of each script is added to the list.
-pub(crate) fn take_in(
+/// The first pass joins the pass of each job into itself, in order of number. What is left of each script is added to
+/// the list.
+pub(crate) fn join_all(
     heap: &Heap,
     first: &mut Pass,
     jobs: Vec<Job<'_>>,
@@ -95,7 +91,7 @@ pub(crate) fn take_in(
     ensures first { IsPassOf heap.now first.new }
     ensures stays { StaysFirst first.old.view first.new.view }
     ensures kept { first.new.view.kept ≡ first.old.view.kept ++ map kept_of_job jobs.entry.items }
-    ensures ended { map left_in ended.new.items ≡ map left_in ended.old.items ++ map left_of jobs.entry.items }
+    ensures ended { map end_of_script ended.new.items ≡ map end_of_script ended.old.items ++ map end_of_job jobs.entry.items }
 {
     for job in jobs {
         let Job {

@@ -1,7 +1,7 @@
 // One script, from its start to its end.
 ghost use Rattle.std.specs.Prelude.{◌≡◌, ℕ};
 ghost use Rattle.jo_value.specs.Texts.{Table};
-ghost use Rattle.jo_tree.specs.Trees.{Items};
+ghost use Rattle.jo_parse_tree.specs.Trees.{Items};
 ghost use Rattle.jo_meaning.specs.Scripts.{interaction_of};
 ghost use Rattle.jo_guard.specs.Ready.{IsReady};
 ghost use Rattle.jo_run.specs.Scripts.{HasRun, IsAtStart, MayRun};

@@ -2,7 +2,7 @@
 ghost use Rattle.std.specs.Prelude.{◌≡◌, ◌+◌, ◌<◌, ◌≤◌, ℕ, List, [], All, IfOk, length};
 ghost use Rattle.std.specs.Vec.{vec_capacity};
 ghost use Rattle.jo_value.specs.Texts.{Table};
-ghost use Rattle.jo_tree.specs.Trees.{Items};
+ghost use Rattle.jo_parse_tree.specs.Trees.{Items};
 ghost use Rattle.jo_heap.specs.Opening.{AreOpened};
 ghost use Rattle.jo_parse.specs.Parsed.{trees_of};
 ghost use Rattle.jo_run.specs.Scripts.{MayRun};
@@ -10,7 +10,7 @@ ghost use Rattle.jo_run.specs.Sets.{HaveRun};
 ghost use Rattle.jo_run.specs.inner.Begun.{AreAtCodes, AreAtStart, AreCodesOf};
 
 use crate::Gate;
-use crate::jobs::{Job, hand_out, run_jobs, take_in};
+use crate::jobs::{Job, hand_out, join_all, run_jobs};
 use jo_code::{Code, compile};
 use jo_heap::{Closed, close, open_heap};
 use jo_model::Outcome;
@@ -38,9 +38,10 @@ pub struct Ended {
     pub closed: Closed,
 }
 
-/// Runs a set of scripts over one shared heap, each in a thread of its own and with so many turns, to the end of the last.
+/// Runs a set of scripts over one shared heap, each in a thread of its own and with `turns` turns, to the end of the
+/// last.
 ///
-/// All memory is taken before the first script starts: a set that runs does not want for memory. On a machine without threads
+/// All memory is taken before the first script starts: no set that runs is refused memory. On a machine without threads
 /// the scripts run in turn.
 pub fn run_set<R: Threads + Wait + Sync, G: Gate>(
     rt: &R,
@@ -107,7 +108,7 @@ fn run_over<'a, R: Threads + Wait + Sync, G: Gate>(
     let mut first = passes.remove(0);
     hand_out(passes, machines, &mut jobs);
     run_jobs(rt, &heap, &mut jobs, gate);
-    take_in(&heap, &mut first, jobs, &mut ended);
+    join_all(&heap, &mut first, jobs, &mut ended);
     Ended {
         scripts: ended,
         closed: close(heap, first),

@@ -19,7 +19,7 @@ use Rattle.jo_rule.specs.Events.{changes}
 use Rattle.jo_rule.specs.Marks.{Mark}
 use Rattle.jo_rule.specs.Owned.{address_of}
 use Rattle.jo_rule.specs.Rule.{Rule}
-use Rattle.jo_rule.specs.Steps.{placing}
+use Rattle.jo_rule.specs.Steps.{with_placed}
 use Rattle.jo_rule.specs.Tidy.{own_changes}
 use Rattle.jo_rule.specs.Views.{View}
 use Rattle.jo_model.proofs.ValidEdits.{within_most}
@@ -31,7 +31,7 @@ use Rattle.jo_rule.proofs.Stores.{loads, reads_own, reads_held, refuses_new, ref
 use Rattle.jo_rule.proofs.Tidy.{looking_changes, placing_changes}
 use Rattle.jo_steps.specs.Counting.{one_load}
 use Rattle.jo_steps.specs.Holding.{lock_of, IsFreshAt, IsHeldAt, MayLoadOwn}
-use Rattle.jo_steps.specs.Telling.{MayPlaceByLoad}
+use Rattle.jo_steps.specs.Effects.{MayPlaceByLoad}
 use Rattle.jo_steps.specs.inner.KindsOfLoads.{IsCellWordOf, looked, loaded_own, stayed}
 use Rattle.jo_steps.specs.inner.Tables.{Keeps}
 
@@ -75,8 +75,8 @@ loaded P w m views r = subst (λ (x : Words). Rule P x views) (sym (put_same w m
 
 -- the event that a load places keeps the rule, and adds no change
 record PlacedByLoad {P : ℕ} {w : Words} {views : List View} (id : ℕ) (v : View) (r : Rule P w views) (event : Event) : Type 0 where
-  rule : Rule P w (set views id (placing P v event r.log (one_load v.counts)))
-  changes : own_changes P (placing P v event r.log (one_load v.counts)) ≡ own_changes P v
+  rule : Rule P w (set views id (with_placed P v event r.log (one_load v.counts)))
+  changes : own_changes P (with_placed P v event r.log (one_load v.counts)) ≡ own_changes P v
 
 module _ {P : ℕ} {w : Words} {views : List View} (id : ℕ) (v : View) (r : Rule P w views) (at : get_elem? views id ≡ some v) (l : v.live ≡ true) where
   -- such an event does
@@ -120,7 +120,7 @@ finds {P} id v r at l none_ o born =
 pub keeps_look : (P id : ℕ) (o : ObjId) (event : Event) (v : View) → v.live ≡ true → v.flat ≡ false → IsBorn (after P v.past.seen) o → MayPlaceByLoad P v event → Keeps P (cell o) (λ n. n) id v (looked P o event v)
 keeps_look P id o event v l none_ born may w views r at =
     let p = places id v r at l event may in
-    let u = placing P v event r.log (one_load v.counts) in (
+    let u = with_placed P v event r.log (one_load v.counts) in (
       u,
       loaded P w (cell o) (set views id u) p.rule,
       refl,

@@ -39,7 +39,7 @@ cuts P id k live first room s holds there =
     let views = views_more (set s.views id left) right ∙ ap (λ (l : List View). l ++ right.view ∷ []) (views_set s.views id left) in
     record { all = holds.all; rule = subst (Rule P (words_of P s.words)) (sym views) (splits id k.view holds.rule (view_there s.views id k there) live first room) }
 
--- a pass takes in another that holds no lock
+-- a pass joins into itself another that holds no lock
 pub glues : (P id other : ℕ) (k l : Known) → k.view.live ≡ true → l.view.live ≡ true → l.view.lock ≡ None → Joins (Holds P) id k other l (known_by (joined k.view l.view)) (known_by spent_view)
 glues P id other k l live live' free s holds there apart there' =
     let both = known_by (joined k.view l.view) in
@@ -69,7 +69,7 @@ pub made_of : (h : HeapView) (q : PassView) (v : View) → v.made < h.passes →
 made_of h q v few most table e =
     subst (λ (u : View). IsPassOf h (record q { view = u })) (sym e) record { table = table; few = most; number = few; objects = omega arith; placed = nothing_placed h.passes v.past.seen v.made; named = omega arith; used = omega arith; zeros = λ k le. refl }
 
--- and so are one that has made another, and one that has taken in another
+-- and so are one that has made another, and one that has joined another into itself
 pub cut_of : (h : HeapView) (p q : PassView) → IsPassOf h p → q.table ≡ p.table → q.view ≡ split_left p.view → IsPassOf h q
 cut_of h p q is table e =
     stays_of h p q is table (subst (Stays p.view) (sym e) record { live = refl; number = refl; flat = refl; births = refl; storage = refl }) (subst (λ (u : View). ArePlacedIn h.passes u.past.seen u.number u.past.calls) (sym e) is.placed)

@@ -7,7 +7,7 @@ use Rattle.jo_rule.specs.declared.event.Event.{Event}
 use Rattle.jo_rule.specs.Histories.{ArePlacedIn}
 use Rattle.jo_rule.specs.Marks.{Mark}
 use Rattle.jo_rule.specs.Views.{View, Births, Storage, word_in}
-use Rattle.jo_rule.specs.Steps.{placing}
+use Rattle.jo_rule.specs.Steps.{with_placed}
 use Rattle.jo_steps.specs.Counting.{one_more, one_load}
 use Rattle.jo_steps.specs.Views.{HeapView, PassView, IsPassOf}
 use Rattle.jo_steps.specs.inner.Passes.{IsPass}
@@ -53,7 +53,7 @@ pub counted_stays : (v u : View) (counts : Counts) → u ≡ record v { counts =
 counted_stays v u counts e = subst (Stays v) (sym e) record { live = refl; number = refl; flat = refl; births = refl; storage = refl }
 
 -- more of the log is seen, and an event is placed
-pub placing_stays : (P : ℕ) (v u : View) (event : Event) (log : Log Mark) (counts : Counts) → u ≡ placing P v event log counts → Stays v u
+pub placing_stays : (P : ℕ) (v u : View) (event : Event) (log : Log Mark) (counts : Counts) → u ≡ with_placed P v event log counts → Stays v u
 placing_stays P v u event log counts e = subst (Stays v) (sym e) record { live = refl; number = refl; flat = refl; births = refl; storage = refl }
 
 -- the counts after a load

@@ -13,14 +13,14 @@ use Rattle.jo_rule.specs.Views.{View}
 use Rattle.jo_rule.specs.Dictionaries.{block_size}
 use Rattle.jo_rule.specs.Owned.{address_of}
 use Rattle.jo_rule.specs.Rule.{Rule}
-use Rattle.jo_rule.specs.Steps.{born_cell, naming, filling, writing, bearing}
+use Rattle.jo_rule.specs.Steps.{born_cell, with_named, with_own_word, with_block_word, with_birth}
 use Rattle.jo_rule.proofs.Names.{word_back}
 use Rattle.jo_rule.proofs.Stores.{fills, writes, knows_storage}
 use Rattle.jo_rule.proofs.Bears.{bears}
 use Rattle.jo_rule.proofs.Tidy.{bearing_changes}
 use Rattle.jo_steps.specs.Counting.{one_store}
 use Rattle.jo_steps.specs.Holding.{lock_of, next_object, IsFreshAt, IsHeldAt, IsBirthAt, MayStoreOwn}
-use Rattle.jo_steps.specs.Telling.{Born, StoredOwn}
+use Rattle.jo_steps.specs.Effects.{Born, StoredOwn}
 use Rattle.jo_steps.specs.inner.Tables.{Keeps}
 use Rattle.jo_steps.specs.inner.Storing.{first_word, used_after, objects_after, HasStored}
 use Rattle.jo_steps.proofs.Going.{same_block, goes_on, not_fresh}
@@ -77,10 +77,10 @@ module _ {P : ℕ} {w : Words} {views : List View} (id : ℕ) (v : View) (r : Ru
   fills_it : (k : ℕ) → IsFreshAt P v k i → Stores (storage (address_of v.number k))
   fills_it k f =
       let counts = one_store v.counts in
-      let u = filling v k word counts in
+      let u = with_own_word v k word counts in
       let r' = fills id v r at l k word counts f.nameless f.within in
       let told : StoredOwn P v i word u = record {
-        fresh = λ j f'. let e = f.number in let d = f'.number in let same : k ≡ j = omega (arith, e, d) in ap (λ (x : ℕ). filling v x word counts) same;
+        fresh = λ j f'. let e = f.number in let d = f'.number in let same : k ≡ j = omega (arith, e, d) in ap (λ (x : ℕ). with_own_word v x word counts) same;
         held = λ j from h. absurd (fresh_or_held k j f h);
         born = λ j room b. absurd (cell_or_storage j room (address_of v.number k) b f.number);
       } in (
@@ -100,13 +100,13 @@ module _ {P : ℕ} {w : Words} {views : List View} (id : ℕ) (v : View) (r : Ru
   writes_it k from h =
       let counts = one_store v.counts in
       let g = lock_of v in
-      let u = writing v g k word counts in
+      let u = with_block_word v g k word counts in
       let r' = writes id v r at l g k word counts h.lock h.kind from h.within in
       let own = knows_storage id v r at l in
       let named = own.0 in
       let told : StoredOwn P v i word u = record {
         fresh = λ j f. absurd (fresh_or_held j k f h);
-        held = λ j from' h'. let e = h.number in let d = h'.number in let same : k ≡ j = omega (arith, e, d) in ap (λ (x : ℕ). writing v g x word counts) same;
+        held = λ j from' h'. let e = h.number in let d = h'.number in let same : k ≡ j = omega (arith, e, d) in ap (λ (x : ℕ). with_block_word v g x word counts) same;
         born = λ j room b. absurd (cell_or_storage j room (g.cell.address + k) b h.number);
       } in (
         u,
@@ -124,8 +124,8 @@ module _ {P : ℕ} {w : Words} {views : List View} (id : ℕ) (v : View) (r : Ru
   bears_it : (k room : ℕ) → P ≤ MOST_PASSES → IsBirthAt P v k room i word → Stores (cell (next_object v))
   bears_it k room most b =
       let counts = one_store v.counts in
-      let own = naming v.storage k (block_size room) in
-      let u = bearing P v r.log own counts in
+      let own = with_named v.storage k (block_size room) in
+      let u = with_birth P v r.log own counts in
       let t = bears id v r at l k room counts most b.may in
       let r' = subst (λ (x : ℕ). Rule P (put w (cell (next_object v)) x) (set views id u)) (sym b.is_word) t.1 in
       let less = b.may.few in

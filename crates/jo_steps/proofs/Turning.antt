@@ -13,7 +13,7 @@ use Rattle.jo_rule.specs.Views.{View}
 use Rattle.jo_rule.proofs.Lists.{set_there}
 use Rattle.jo_rule.proofs.Names.{word_below, words_set, word_is}
 use Rattle.jo_steps.specs.declared.known.Known.{Known}
-use Rattle.jo_steps.specs.inner.Tables.{known_by, views_of, Holds, Told, tells, Keeps}
+use Rattle.jo_steps.specs.inner.Tables.{known_by, views_of, Holds, StepFact, tells, Keeps}
 
 -- the words and the views after a step are those of the table after it
 kept : (P : ℕ) (m : WordName) (ws : List ℕ) (x : ℕ) (views : List Known) (id : ℕ) (u : View) → is_word P m ≡ true → length ws ≡ words_in_all P → Rule P (put (words_of P ws) m x) (set (views_of views) id u)
@@ -27,7 +27,7 @@ kept P m ws x views id u h all r =
 lawful_after : {P : ℕ} {w : Words} (views : List View) (id : ℕ) (v u : View) → Rule P w (set views id u) → get_elem? views id ≡ some v → u.live ≡ v.live → v.live ≡ true → ArePlacedIn P u.past.seen u.number u.past.calls
 lawful_after views id v u r at same l = r.placements.own id u (set_there views id v u at) (same ∙ l)
 
-pub turn : (P slots id : ℕ) (me : Me (Unit {0}) Known) (m : WordName) (f : ℕ → ℕ) (T : Told) (st : Step (Unit {0})) → is_word P m ≡ true → Keeps P m f id me.0.view (T me.0.view)
+pub turn : (P slots id : ℕ) (me : Me (Unit {0}) Known) (m : WordName) (f : ℕ → ℕ) (T : StepFact) (st : Step (Unit {0})) → is_word P m ≡ true → Keeps P m f id me.0.view (T me.0.view)
     → Allows (Holds P) slots id me (word_at P m) f (tells P T st me)
 turn P slots id me m f T st h k s holds len there bound =
     let x = get_or s.words (word_at P m) 0 in
@@ -45,7 +45,7 @@ turn P slots id me m f T st h k s holds len there bound =
     )
 
 -- the same for a store, which tells of the word that it stores
-pub store_turn : (P slots id : ℕ) (me : Me (Unit {0}) Known) (m : WordName) (x : ℕ) (T : Told) (st : Step (Unit {0})) → is_word P m ≡ true → Keeps P m (λ _. x) id me.0.view (λ n u. T me.0.view x u)
+pub store_turn : (P slots id : ℕ) (me : Me (Unit {0}) Known) (m : WordName) (x : ℕ) (T : StepFact) (st : Step (Unit {0})) → is_word P m ≡ true → Keeps P m (λ _. x) id me.0.view (λ n u. T me.0.view x u)
     → Allows (Holds P) slots id me (word_at P m) (λ _. x) (λ _. tells P T st me x)
 store_turn P slots id me m x T st h k s holds len there bound =
     let at = at_map (λ (n : Known). n.view) s.views id me.0 there in
@@ -59,11 +59,11 @@ store_turn P slots id me m x T st h k s holds len there bound =
 
 -- ---- as the heap has its key and the number of the word
 
-pub turned : (P key at slots id : ℕ) (me : Me (Unit {0}) Known) (m : WordName) (f : ℕ → ℕ) (T : Told) (st : Step (Unit {0})) → key ≡ P → at ≡ word_at P m → is_word P m ≡ true → Keeps P m f id me.0.view (T me.0.view)
+pub turned : (P key at slots id : ℕ) (me : Me (Unit {0}) Known) (m : WordName) (f : ℕ → ℕ) (T : StepFact) (st : Step (Unit {0})) → key ≡ P → at ≡ word_at P m → is_word P m ≡ true → Keeps P m f id me.0.view (T me.0.view)
     → Allows (Holds key) slots id me at f (tells P T st me)
 turned P key at slots id me m f T st k w h own = subst (λ (x : ℕ × ℕ). Allows (Holds x.0) slots id me x.1 f (tells P T st me)) (λ i. (sym k i, sym w i)) (turn P slots id me m f T st h own)
 
-pub stored : (P key at slots id x : ℕ) (me : Me (Unit {0}) Known) (m : WordName) (T : Told) (st : Step (Unit {0})) → key ≡ P → at ≡ word_at P m → is_word P m ≡ true → Keeps P m (λ _. x) id me.0.view (λ n u. T me.0.view x u)
+pub stored : (P key at slots id x : ℕ) (me : Me (Unit {0}) Known) (m : WordName) (T : StepFact) (st : Step (Unit {0})) → key ≡ P → at ≡ word_at P m → is_word P m ≡ true → Keeps P m (λ _. x) id me.0.view (λ n u. T me.0.view x u)
     → Allows (Holds key) slots id me at (λ _. x) (λ _. tells P T st me x)
 stored P key at slots id x me m T st k w h own = subst (λ (y : ℕ × ℕ). Allows (Holds y.0) slots id me y.1 (λ _. x) (λ _. tells P T st me x)) (λ i. (sym k i, sym w i)) (store_turn P slots id me m x T st h own)
 

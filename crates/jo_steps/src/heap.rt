@@ -5,7 +5,7 @@ ghost use Rattle.jo_value.specs.declared.limits.TheConstants.{MOST_STORAGE};
 ghost use Rattle.jo_rule.specs.Names.{cell, storage, word_at};
 
 use crate::known::Known;
-use crate::table::Law;
+use crate::table::HeapRule;
 use atomic_table::Table;
 use jo_layout::Layout;
 use jo_value::ObjId;
@@ -15,7 +15,7 @@ use std::marker::Model;
 /// A heap: a table of words, which passes step on. Contracts see the table and how many passes it has.
 #[derive(Drop)]
 pub struct Heap {
-    pub(crate) table: Table<(), Known, u8, Law, Global>,
+    pub(crate) table: Table<(), Known, u8, HeapRule, Global>,
     pub(crate) passes: u8,
 }
 

@@ -4,7 +4,7 @@ ghost use Rattle.std.specs.Prelude.{◌≡◌};
 use jo_value::{Cell, ObjId};
 use std::marker::Model;
 
-/// The lock of an object, until it is let go. Contracts see the object, and its cell as it was found.
+/// The lock of an object, until it is released. Contracts see the object, and its cell as it was found.
 pub struct Held {
     pub(crate) object: ObjId,
     pub(crate) cell: Cell,

@@ -6,9 +6,9 @@ ghost use Rattle.jo_model.specs.Logs.{after};
 ghost use Rattle.jo_steps.specs.Views.{IsPassOf};
 ghost use Rattle.jo_steps.specs.Counting.{one_load};
 ghost use Rattle.jo_steps.specs.Holding.{MayLoadOwn};
-ghost use Rattle.jo_steps.specs.Telling.{IsCellOf, LoadedOwn, Looked, MayPlaceByLoad};
+ghost use Rattle.jo_steps.specs.Effects.{IsCellOf, LoadedOwn, Looked, MayPlaceByLoad};
 
-use crate::turns::load_as;
+use crate::access::load_by;
 use crate::{Heap, Pass};
 use jo_rule::Event;
 use jo_value::{Cell, ObjId, cell_of};
@@ -36,7 +36,7 @@ impl Heap {
         ensures cell { IsCellOf o result }
     {
         let at = self.at_cell(o);
-        let word = load_as::<Brand, (ObjId, Event)>(self, &mut pass.seat, at, &(o, event));
+        let word = load_by::<Brand, (ObjId, Event)>(self, &mut pass.seat, at, &(o, event));
         pass.counts.loads = pass.counts.loads.saturating_add(1);
         found_cell(word)
     }
@@ -50,7 +50,7 @@ impl Heap {
         ensures word { LoadedOwn self.now.passes pass.old.view at result }
         ensures view { pass.new.view ≡ record pass.old.view { counts = one_load pass.old.view.counts } }
     {
-        let word = load_as::<Brand, u32>(self, &mut pass.seat, at, &at);
+        let word = load_by::<Brand, u32>(self, &mut pass.seat, at, &at);
         pass.counts.loads = pass.counts.loads.saturating_add(1);
         word
     }

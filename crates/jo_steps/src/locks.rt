@@ -2,14 +2,14 @@
 ghost use Rattle.std.specs.Prelude.{◌≡◌, ◌≢◌, IfErr, IfOk};
 ghost use Rattle.jo_model.specs.Heaps.{IsBorn};
 ghost use Rattle.jo_model.specs.Logs.{after};
-ghost use Rattle.jo_rule.specs.Steps.{MayLetGo, MayTry, losing};
+ghost use Rattle.jo_rule.specs.Steps.{MayRelease, MayTry, with_lost_try};
 ghost use Rattle.jo_steps.specs.Views.{IsPassOf};
 ghost use Rattle.jo_steps.specs.Counting.{one_lock};
 ghost use Rattle.jo_steps.specs.Holding.{HoldsLock, lock_of};
-ghost use Rattle.jo_steps.specs.Telling.{IsCellOf, LetGo, Locked, MayLeave};
+ghost use Rattle.jo_steps.specs.Effects.{IsCellOf, ReleasesTo, Locked, MayReleaseTo};
 
+use crate::access::{exchange_by, store_by};
 use crate::loads::found_cell;
-use crate::turns::{exchange_as, store_as};
 use crate::{Heap, Held, Pass};
 use jo_rule::Event;
 use jo_value::{Cell, ObjId, cell_word};
@@ -24,7 +24,7 @@ impl Heap {
         requires may { MayTry pass.old.view seen }
         ensures pass { IsPassOf self.now pass.new }
         ensures held { IfOk result (λ held. (held.object ≡ o) × (held.cell ≡ seen) × Locked self.now.passes held pass.old.view pass.new.view) }
-        ensures lost { IfErr result (λ found. IsCellOf o found × (found ≢ seen) × (pass.new.view ≡ losing pass.old.view o seen (one_lock pass.old.view.counts))) }
+        ensures lost { IfErr result (λ found. IsCellOf o found × (found ≢ seen) × (pass.new.view ≡ with_lost_try pass.old.view o seen (one_lock pass.old.view.counts))) }
     {
         let at = self.at_cell(o);
         let expected = cell_word(seen);
@@ -32,7 +32,7 @@ impl Heap {
             locked: true,
             ..seen
         };
-        let found = exchange_as::<Brand, (ObjId, Cell)>(
+        let found = exchange_by::<Brand, (ObjId, Cell)>(
             self,
             &mut pass.seat,
             at,
@@ -51,21 +51,21 @@ impl Heap {
         }
     }
 
-    /// Lets a lock go with an event. The next cell has no lock; its block is the one that was held, or a new one of the own
-    /// storage, which no cell has named.
+    /// Releases a lock with an event. The next cell has no lock; its block is the one that was held, or a new one of
+    /// the own storage, which no cell has named.
     pub fn release(&self, pass: &mut Pass, held: Held, next: Cell, event: Event)
         requires pass { IsPassOf self.now pass.old }
         requires held { HoldsLock self.now.passes pass.old.view held }
-        requires event { MayLetGo self.now.passes pass.old.view (lock_of pass.old.view) event }
-        requires next { MayLeave pass.old.view held next event }
+        requires event { MayRelease self.now.passes pass.old.view (lock_of pass.old.view) event }
+        requires next { MayReleaseTo pass.old.view held next event }
         ensures pass { IsPassOf self.now pass.new }
-        ensures view { LetGo self.now.passes pass.old.view held next event pass.new.view }
+        ensures view { ReleasesTo self.now.passes pass.old.view held next event pass.new.view }
     {
         // Its passes are few, so a cell has bits for each address.
         let _ = &self.passes;
         let Held { object, cell } = held;
         let at = self.at_cell(object);
-        store_as::<Brand, (ObjId, Cell, Cell, Event)>(
+        store_by::<Brand, (ObjId, Cell, Cell, Event)>(
             self,
             &mut pass.seat,
             at,

@@ -1,11 +1,11 @@
-// A pass is made, and taken in.
+// A pass is made, and joined into another.
 ghost use Rattle.std.specs.Prelude.{◌≡◌, ◌<◌, None};
 ghost use Rattle.jo_rule.specs.Steps.{joined, split_left, split_right};
 ghost use Rattle.jo_steps.specs.Views.{AreNoStamps, IsPassOf};
 
+use crate::access::load_by;
 use crate::pass::NO_COUNTS;
-use crate::table::{Cut, Glue};
-use crate::turns::load_as;
+use crate::table::{Fork, Merge};
 use crate::{Heap, Pass};
 use std::marker::Brand;
 
@@ -19,7 +19,7 @@ impl Heap {
         ensures left { IsPassOf self.now pass.new × (pass.new.view ≡ split_left pass.old.view) }
         ensures right { IsPassOf self.now result × (result.view ≡ split_right pass.old.view) }
     {
-        let seat = self.table.shared.split_seat::<Cut>(&mut pass.seat);
+        let seat = self.table.shared.split_seat::<Fork>(&mut pass.seat);
         Pass {
             seat,
             number,
@@ -31,7 +31,8 @@ impl Heap {
         }
     }
 
-    /// A pass takes in another that holds no lock: what it has seen, what it has done, and all that it kept.
+    /// A pass joins into itself another that holds no lock: what that one has seen, what it has done, and all that it
+    /// kept.
     pub fn join_pass(&self, into: &mut Pass, from: Pass)
         requires passes { IsPassOf self.now into.old × IsPassOf self.now from }
         requires free { from.view.lock ≡ None }
@@ -39,8 +40,8 @@ impl Heap {
         ensures view { into.new.view ≡ joined into.old.view from.view }
     {
         let Pass { seat, .. } = from;
-        self.table.shared.join_seat::<Glue>(&mut into.seat, seat);
+        self.table.shared.join_seat::<Merge>(&mut into.seat, seat);
         // The join tells nothing of the rule. A load does: the calls stay lawful in what either pass has seen.
-        load_as::<Brand, ()>(self, &mut into.seat, 0, &());
+        load_by::<Brand, ()>(self, &mut into.seat, 0, &());
     }
 }

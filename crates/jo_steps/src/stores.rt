@@ -3,10 +3,10 @@ ghost use Rattle.std.specs.Prelude.{◌≡◌, ◌≤◌};
 ghost use Rattle.jo_value.specs.declared.limits.TheConstants.{MOST_STORAGE};
 ghost use Rattle.jo_steps.specs.Views.{IsPassOf};
 ghost use Rattle.jo_steps.specs.Holding.{MayStoreOwn};
-ghost use Rattle.jo_steps.specs.Telling.{StoredOwn};
+ghost use Rattle.jo_steps.specs.Effects.{StoredOwn};
 ghost use Rattle.jo_steps.specs.inner.Storing.{used_after};
 
-use crate::turns::store_as;
+use crate::access::store_by;
 use crate::{Heap, Pass};
 use jo_value::MOST_STORAGE;
 use std::marker::Brand;
@@ -20,7 +20,7 @@ impl Heap {
         ensures view { StoredOwn self.now.passes pass.old.view at word pass.new.view }
     {
         let storage = self.layout().storage_at();
-        store_as::<Brand, ()>(self, &mut pass.seat, at, word, &());
+        store_by::<Brand, ()>(self, &mut pass.seat, at, word, &());
         pass.counts.stores = pass.counts.stores.saturating_add(1);
         pass.used = self.used_after(pass.number, pass.used, at);
         pass.objects += u16::from(at < storage);

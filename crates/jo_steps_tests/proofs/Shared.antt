@@ -13,11 +13,11 @@ use Rattle.jo_rule.specs.declared.event.Event.TheVariants.{Nothing}
 use Rattle.jo_rule.specs.Dictionaries.{block_size, dictionary_header, HasProperties}
 use Rattle.jo_rule.specs.Histories.{Begins}
 use Rattle.jo_rule.specs.Marks.{Mark}
-use Rattle.jo_rule.specs.Steps.{losing, writing}
+use Rattle.jo_rule.specs.Steps.{with_lost_try, with_block_word}
 use Rattle.jo_rule.specs.Views.{View, Lock, Storage}
 use Rattle.jo_rule.proofs.Heaps.{born-longer}
 use Rattle.jo_steps.specs.Holding.{lock_of, lock_or, HoldsLock}
-use Rattle.jo_steps.specs.Telling.{Locked, Looked, Released}
+use Rattle.jo_steps.specs.Effects.{Locked, Looked, Released}
 use Rattle.jo_steps.specs.Views.{HeldView}
 use Rattle.jo_steps_tests.specs.Sharing.{HasShared, MayTake, OnlyCounts, Stays}
 
@@ -30,7 +30,7 @@ kept_longer P log seen more = subst (λ (l : Log Mark). KeepsBorn (after P seen)
 pub stays_then : {v u w : View} → Stays v u → Stays u w → Stays v w
 stays_then a b = record { number = b.number ∙ a.number; made = b.made ∙ a.made; kept = b.kept ∙ a.kept }
 
-pub stays_written : (v u : View) (k word : ℕ) (counts : Counts) → u ≡ writing v (lock_of v) k word counts → Stays v u
+pub stays_written : (v u : View) (k word : ℕ) (counts : Counts) → u ≡ with_block_word v (lock_of v) k word counts → Stays v u
 stays_written v u k word counts e = record { number = ap (λ (x : View). x.number) e; made = ap (λ (x : View). x.made) e; kept = ap (λ (x : View). x.kept) e }
 
 -- ---- the lock is tried
@@ -41,7 +41,7 @@ looked_may {P} {v} {u} l may = record {
   unlocked = ap (λ (x : View). x.lock) l.view ∙ may.unlocked;
 }
 
-pub lost_may : {P : ℕ} (v u : View) (o : ObjId) (seen : Cell) (counts : Counts) → u ≡ losing v o seen counts → MayTake P v → MayTake P u
+pub lost_may : {P : ℕ} (v u : View) (o : ObjId) (seen : Cell) (counts : Counts) → u ≡ with_lost_try v o seen counts → MayTake P v → MayTake P u
 lost_may {P} v u o seen counts e may = record {
   born = subst (λ (x : View). IsBorn (after P x.past.seen) shared) (sym e) may.born;
   unlocked = ap (λ (x : View). x.lock) e ∙ may.unlocked;
@@ -79,7 +79,7 @@ pub counts_holds : {P : ℕ} (v u : View) {held : HeldView} → OnlyCounts v u �
 counts_holds v u e l = same_lock (ap (λ (x : View). x.lock) e) l
 
 -- a word of the block was stored
-pub still_held : {P : ℕ} (v u : View) {held : HeldView} (k word : ℕ) (counts : Counts) → 0 < k → u ≡ writing v (lock_of v) k word counts → HoldsLock P v held → HoldsLock P u held
+pub still_held : {P : ℕ} (v u : View) {held : HeldView} (k word : ℕ) (counts : Counts) → 0 < k → u ≡ with_block_word v (lock_of v) k word counts → HoldsLock P v held → HoldsLock P u held
 still_held {P} v u {held} k word counts more_ e l = subst (λ (x : View). HoldsLock P x held) (sym e) (record {
   lock = refl;
   object = l.object;
@@ -94,7 +94,7 @@ still_held {P} v u {held} k word counts more_ e l = subst (λ (x : View). HoldsL
   there = l.there;
 })
 
--- ---- it is let go
+-- ---- it is released
 
 pub let_go_stays : {P : ℕ} {event : Event} {own : Storage} {v u : View} → Released P event own v u → Stays v u
 let_go_stays r = record { number = ap (λ (x : View). x.number) r.view; made = ap (λ (x : View). x.made) r.view; kept = ap (λ (x : View). x.kept) r.view }

@@ -1,2 +1,3 @@
+-- Nothing here has to be believed: Births and Sharing are words of tests.
 pub mod Births
 pub mod Sharing

@@ -1,6 +1,6 @@
 // An object is born.
 ghost use Rattle.std.specs.Prelude.{◌≡◌, None};
-ghost use Rattle.jo_rule.specs.Steps.{opening_view, split_right, filling};
+ghost use Rattle.jo_rule.specs.Steps.{opening_view, split_right, with_own_word};
 ghost use Rattle.jo_steps.specs.Counting.{one_store};
 ghost use Rattle.jo_steps.specs.Views.{IsPassOf};
 ghost use Rattle.jo_steps_tests.specs.Births.{filled_view};

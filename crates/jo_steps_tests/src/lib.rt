@@ -4,7 +4,7 @@
 #[cfg(test)]
 mod births;
 #[cfg(test)]
-mod ends;
+mod block_words;
 #[cfg(test)]
 mod locks;
 #[cfg(test)]
@@ -14,4 +14,4 @@ mod steps;
 #[cfg(test)]
 mod turns;
 #[cfg(test)]
-mod words;
+mod two_passes;

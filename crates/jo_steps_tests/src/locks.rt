@@ -1,10 +1,10 @@
-// The lock of the shared object is taken, and let go.
+// The lock of the shared object is taken, and released.
 ghost use Rattle.std.specs.Prelude.{◌≡◌, [], IfSome, None};
 ghost use Rattle.jo_steps.specs.Views.{IsPassOf};
 ghost use Rattle.jo_steps.specs.Holding.{lock_of};
 ghost use Rattle.jo_steps_tests.specs.Sharing.{HasShared, MayTake, Stays};
 
-use crate::words::{load_held, store_held};
+use crate::block_words::{load_held, store_held};
 use crossbeam_utils::Backoff;
 use jo_model::Call;
 use jo_rule::Event;
@@ -65,7 +65,7 @@ pub(crate) fn expect_empty(rt: &impl Abort, heap: &Heap, pass: &mut Pass, held: 
     assert!(rt; count == 0);
 }
 
-// Puts 5 under the name 7, and lets the lock go.
+// Puts 5 under the name 7, and releases the lock.
 pub(crate) fn put_five(heap: &Heap, pass: &mut Pass, held: Held)
     requires pass { IsPassOf heap.now pass.old }
     requires held { HasShared heap.now.passes pass.old.view held }
@@ -100,7 +100,7 @@ pub(crate) fn count_up(heap: &Heap, pass: &mut Pass, held: &Held)
     store_held(heap, pass, held, 129, count.wrapping_add(1));
 }
 
-// Lets the lock go without a call.
+// Releases the lock without a call.
 pub(crate) fn leave_shared(heap: &Heap, pass: &mut Pass, held: Held)
     requires pass { IsPassOf heap.now pass.old }
     requires held { HasShared heap.now.passes pass.old.view held }

@@ -103,7 +103,7 @@ fn opening_word_at(passes: u8, at: u32) -> u64
     }
 }
 
-/// The words of a heap of so many passes, at its start.
+/// The words of a heap of `passes` passes, at its start.
 pub(crate) fn opening_words(alloc: Global, passes: u8) -> Result<Vec<u64>, AllocError>
     requires { passes ≤ MOST_PASSES }
     ensures { IfOk result (λ words. AreOpening passes words.items) }

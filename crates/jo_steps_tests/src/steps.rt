@@ -2,9 +2,9 @@
 ghost use Rattle.std.specs.Prelude.{◌≡◌, length};
 
 use crate::births::{bear, fill_block};
-use crate::ends::{Two, close_two, open_two};
 use crate::locks::{expect_empty, lock_shared, put_five};
 use crate::turns::take_turns_both;
+use crate::two_passes::{Two, close_two, open_two};
 use jo_steps::{ClosedWords, Pass};
 use std::process::Abort;
 use std::test::Fail;

@@ -22,7 +22,7 @@ fn take_turn<R: Abort + Wait>(rt: &R, heap: &Heap, pass: &mut Pass)
     leave_shared(heap, pass, held);
 }
 
-// So many turns.
+// Takes `turns` turns.
 fn take_turns<R: Abort + Wait>(rt: &R, heap: &Heap, pass: &mut Pass, turns: u32)
     requires pass { IsPassOf heap.now pass.old }
     requires may { MayTake heap.now.passes pass.old.view }
@@ -35,7 +35,7 @@ fn take_turns<R: Abort + Wait>(rt: &R, heap: &Heap, pass: &mut Pass, turns: u32)
     }
 }
 
-// So many turns of each, side by side.
+// Takes `turns` turns of each, side by side.
 pub(crate) fn take_turns_both<R: Abort + Wait + Threads + Sync>(
     rt: &R,
     heap: &Heap,

@@ -15,7 +15,7 @@ use Rattle.jo_totals.proofs.Sums.{sum_of-cons, sum_of-append}
 
 -- ---- a tally
 
--- so many properties were seen that these are left of all
+-- the tally counts all properties but these, which are left
 pub record Leaves {K : Type 0} (tally : Tally) (rest whole : List (K × Value)) : Type 0 where
   pub count : tally.count + length rest ≡ length whole
   pub sum : tally.sum +ℤ sum_of (λ p. number_in p.1) rest ≡ sum_of (λ p. number_in p.1) whole

@@ -27,7 +27,7 @@ named n v = (record { 0 = n }, v)
 abbrev object : List (NameId × Value) → List (ℕ × Value) → Object
 object names elements = record { names = names; elements = elements }
 
--- so many objects, names and elements, with this sum
+-- the totals with these numbers of objects, names and elements, and this sum
 abbrev has : ℕ → ℕ → ℕ → ℤ → Totals
 has objects names elements sum = record { objects = objects; names = names; elements = elements; sum = sum }
 

@@ -3,7 +3,7 @@ use Rattle.std.proofs.Common.{◌≡◌, ℕ, pos, refl}
 use Rattle.jo_value.specs.declared.bits.Bits.{Bits}
 use Rattle.jo_value.specs.declared.bits.TheConstants.{TAG, CONTENT, UNDEFINED_TAG, NULL_TAG, BOOL_TAG, INT_TAG, TEXT_TAG, OBJECT_TAG, NUMBER_BIAS, CELL_SID, CELL_ADDRESS, CELL_OWNER, CELL_SHARED_WRITE, CELL_LOCKED, CELL_KIND, FLAT_KIND, SEGMENTED_KIND, OPENING_KIND, DICTIONARY_KIND, CELL_BORN, NODE_PARENT, NODE_NAME, NODE_OFFSET, NODE_TOP, NODE_DEPTH, NODE_CHANGE, NODE_BORN, HEADER_NAMES, HEADER_ELEMENTS}
 
--- so many bits from this place on
+-- `width` bits from this place on
 abbrev bits : ℕ → ℕ → Bits
 bits place width = record { place = place; width = width }
 

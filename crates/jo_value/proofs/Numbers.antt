@@ -185,11 +185,11 @@ dictionary_of_all_names = refl
 shared_block : SHARED_STORAGE ≡ SHARED_ADDRESS + DICTIONARY_NEED
 shared_block = refl
 
--- two sets for each structure; one opening and so many removals for each object
+-- two sets for each structure; one opening and MOST_DEPTH removals for each object
 epochs : MOST_EPOCHS ≡ MOST_PASSES * MOST_STRUCTURES * 2 + MOST_PASSES * MOST_OBJECTS * (1 + MOST_DEPTH)
 epochs = refl
 
--- so many calls fit into the storage of a pass and no more, and so many into its structures
+-- CALLS_WITHIN_STORAGE calls fit into the storage of a pass and no more, CALLS_WITHIN_STRUCTURES into its structures
 storage_of_calls : CALLS_WITHIN_STORAGE * MOST_NEED ≤ MOST_STORAGE
 storage_of_calls = omega arith
 

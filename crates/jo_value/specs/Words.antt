@@ -20,7 +20,7 @@ use Rattle.jo_value.specs.declared.words.slot.Slot.TheVariants.{Absent, Holds as
 abbrev pub IsInWord : Bits → Type 0
 IsInWord bits = (0 < bits.width) × (bits.width < 64) × (bits.place + bits.width ≤ 64)
 
--- so many bits hold the number
+-- these bits have room for the number
 abbrev pub Holds : Bits → ℕ → Type 0
 Holds bits n = n < 2 ^ bits.width
 

@@ -83,8 +83,8 @@ pub const MOST_SIBLINGS: u8 = 64;
 /// The most structures that a call makes.
 pub const MOST_STRUCTURES_OF_CALL: u16 = 2;
 
-/// So many calls a pass makes at least before its structures are used up.
+/// The number of calls that a pass makes at least before its structures are used up.
 pub const CALLS_WITHIN_STRUCTURES: u16 = 2_047;
 
-/// So many calls a pass makes at least before one is refused for want of storage.
+/// The number of calls that a pass makes at least before one is refused for want of storage.
 pub const CALLS_WITHIN_STORAGE: usize = 455;

@@ -21,7 +21,7 @@ use Rattle.jo_vm.specs.contracts.stack.Stack as stack
 use Rattle.jo_vm.specs.contracts.variables.Variables as variables
 use Rattle.jo_vm.specs.contracts.vm.Stage as stage
 use Rattle.jo_vm.specs.contracts.vm.Vm as vm
-use Rattle.jo_vm.specs.contracts.words.Words as words
+use Rattle.jo_vm.specs.contracts.keywords.Words as words
 use Rattle.std.proofs.Crossing.{crosses}
 use Rattle.std_alloc.specs.contracts.string.String as string
 use Rattle.std_heap.specs.contracts.Global as heap

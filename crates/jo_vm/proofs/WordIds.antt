@@ -2,8 +2,8 @@
 use Rattle.std.proofs.Common.{◌≡◌, List, refl, ap, ◌∙◌}
 use Rattle.jo_value.specs.declared.value.TextId.{TextId}
 use Rattle.jo_value.specs.Texts.{Table}
-use Rattle.jo_tree.specs.declared.keyword.Keyword.{Keyword}
-use Rattle.jo_tree.specs.declared.keyword.Keyword.TheVariants as keyword
+use Rattle.jo_parse_tree.specs.declared.keyword.Keyword.{Keyword}
+use Rattle.jo_parse_tree.specs.declared.keyword.Keyword.TheVariants as keyword
 use Rattle.jo_vm.specs.inner.Words.{id_among, word_id, ids_in}
 
 id_at_place : (texts : Table) (word : Keyword) → id_among (ids_in texts) word ≡ word_id texts word

@@ -4,7 +4,7 @@ ghost use Rattle.jo_value.specs.Values.{is_strictly_equal};
 ghost use Rattle.jo_meaning.specs.Values.{is_falsy, safe, remainder, of_numbers, on_numbers, apply, negated, apply_unary, object_in};
 
 use jo_model::Outcome;
-use jo_tree::{BinaryOperator, UnaryOperator};
+use jo_parse_tree::{BinaryOperator, UnaryOperator};
 use jo_value::{MOST_NUMBER, ObjId, Texts, Value};
 
 // The largest number.

@@ -92,7 +92,7 @@ impl Stack {
         self.items.clear();
     }
 
-    /// So many values from the top, the one on top last; all where there are fewer.
+    /// `count` values from the top, the one on top last; all where there are fewer.
     pub(crate) fn last(&self, count: u32) -> &[Value]
         ensures { result.now ≡ reverse (take count self.now.1) }
     {
@@ -100,7 +100,7 @@ impl Stack {
         &self.items[start..]
     }
 
-    /// Takes so many values off; all where there are fewer.
+    /// Takes `count` values off; all where there are fewer.
     pub(crate) fn drop_last(&mut self, count: u32)
         ensures { self.new ≡ (self.old.0, drop count self.old.1) }
     {

@@ -22,7 +22,7 @@ impl Model for Variables {
 }
 
 impl Variables {
-    /// So many variables, all undefined. No other call takes memory.
+    /// `count` variables, all undefined. No other call takes memory.
     pub(crate) fn new(alloc: Global, count: usize) -> Result<Variables, AllocError>
         ensures { IfOk result (λ v. v ≡ replicate count Undefined) }
     {

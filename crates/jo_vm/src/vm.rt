@@ -4,11 +4,11 @@ ghost use Rattle.jo_vm.specs.declared.vm.Stage.TheVariants as stage;
 
 use crate::execution::{Execution, Pause};
 use crate::frame::{Due, Frame, Request};
+use crate::keywords::Words;
 use crate::lines::Lines;
 use crate::stack::Stack;
 use crate::variables::Variables;
 use crate::ways::ways_of;
-use crate::words::Words;
 use jo_code::Code;
 use jo_model::{Call, Outcome, Reply};
 use jo_value::Texts;
@@ -63,7 +63,7 @@ impl<'a> Vm<'a> {
     ghost use Rattle.jo_vm.specs.Machines.{Free, IsFree, IsWaiting, stands, Asked, Answered};
     ghost use Rattle.jo_vm.specs.inner.State.{IsAsking};
 
-    /// A machine at the start of a code, with so many turns, and with all the room that the code needs. No other call
+    /// A machine at the start of a code, with `turns` turns, and with all the room that the code needs. No other call
     /// takes memory.
     pub fn new(
         alloc: Global,

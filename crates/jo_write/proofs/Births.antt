@@ -16,7 +16,7 @@ use Rattle.jo_rule.specs.Tidy.{own_changes}
 use Rattle.jo_rule.specs.Views.{View}
 use Rattle.jo_rule.proofs.Histories.{begins_recorded, begins_through}
 use Rattle.jo_steps.specs.Holding.{next_object}
-use Rattle.jo_steps.specs.Telling.{Born}
+use Rattle.jo_steps.specs.Effects.{Born}
 use Rattle.jo_steps.specs.Views.{HeapView, PassView, IsPassOf}
 use Rattle.jo_dict.specs.Blocks.{IsMade}
 use Rattle.jo_guard.specs.Placing.{HasPlaced}

@@ -8,12 +8,12 @@ use Rattle.jo_rule.specs.Views.{word_in, View}
 use Rattle.jo_steps.specs.Holding.{HoldsLock, lock_of}
 use Rattle.jo_steps.specs.Views.{HeldView}
 use Rattle.jo_dict.specs.Blocks.{IsMade, OnlyBlock, OnlyCounts, OnlyStorage}
-use Rattle.jo_guard.specs.Guarding.{HasTaken}
-use Rattle.jo_guard.specs.Leaving.{HasLetGo}
+use Rattle.jo_guard.specs.Locking.{HasLocked}
+use Rattle.jo_guard.specs.Releasing.{HasReleased}
 use Rattle.jo_guard.proofs.Holding.{IsHolding, holding_stored, holding_taken, holding_written, stored_counts}
 
 -- the block of a lock that was just taken was changed
-module _ {P : ℕ} {o : ObjId} {held : HeldView} {v w u : View} (taken : HasTaken P o held v w) (only : OnlyBlock w u) where
+module _ {P : ℕ} {o : ObjId} {held : HeldView} {v w u : View} (taken : HasLocked P o held v w) (only : OnlyBlock w u) where
   pub held_changed : HoldsLock P u held → IsHolding P o held v u
   held_changed holds = holding_written P o held v w u only holds (holding_taken P o held v w taken)
 
@@ -24,7 +24,7 @@ module _ {P : ℕ} {o : ObjId} {held : HeldView} {v w u : View} (taken : HasTake
   changed_content = ap (λ (x : View). (lock_of x).content) only
 
 -- it was read
-module _ {P : ℕ} {o : ObjId} {held : HeldView} {v w x : View} (taken : HasTaken P o held v w) (only : OnlyCounts w x) where
+module _ {P : ℕ} {o : ObjId} {held : HeldView} {v w x : View} (taken : HasLocked P o held v w) (only : OnlyCounts w x) where
   pub held_read : IsHolding P o held v x
   held_read = holding_stored P o held v w x (stored_counts w x only) (holding_taken P o held v w taken)
 
@@ -47,8 +47,8 @@ module _ {P : ℕ} {o : ObjId} {held : HeldView} {v w x : View} (taken : HasTake
   pub held_still : {y : View} → y ≡ x → IsHolding P o held v y
   held_still same = subst (IsHolding P o held v) (sym same) held_read
 
-  -- let go so, it took no storage
-  pub still_storage : {y u : View} {event : Event} → y ≡ x → HasLetGo P event y.storage y u → u.storage ≡ v.storage
+  -- released so, it took no storage
+  pub still_storage : {y u : View} {event : Event} → y ≡ x → HasReleased P event y.storage y u → u.storage ≡ v.storage
   still_storage same left = ap (λ (q : View). q.storage) left.only ∙ (ap (λ (q : View). q.storage) same ∙ (ap (λ (q : View). q.storage) only ∙ ap (λ (q : View). q.storage) taken.only))
 
 -- ---- new blocks

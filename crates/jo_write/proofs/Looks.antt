@@ -18,7 +18,7 @@ use Rattle.jo_rule.specs.Marks.{Mark}
 use Rattle.jo_rule.specs.Views.{View}
 use Rattle.jo_rule.proofs.Heaps.{born-longer}
 use Rattle.jo_rule.proofs.Histories.{begins_recorded, begins_through}
-use Rattle.jo_steps.specs.Telling.{Looked}
+use Rattle.jo_steps.specs.Effects.{Looked}
 use Rattle.jo_guard.specs.Placing.{HasPlaced, TriesDictionaries, IsTryOfDictionary}
 
 -- the shared object is there from the start

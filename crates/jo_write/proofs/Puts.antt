@@ -25,8 +25,8 @@ use Rattle.jo_rule.specs.Views.{View, Storage}
 use Rattle.jo_steps.specs.Holding.{lock_of}
 use Rattle.jo_steps.specs.Views.{HeldView}
 use Rattle.jo_dict.specs.Blocks.{HasRoomFor, IsMade, IsTooMuch, OnlyCounts}
-use Rattle.jo_guard.specs.Guarding.{HasTaken}
-use Rattle.jo_guard.specs.Leaving.{HasLetGo, recorded_by}
+use Rattle.jo_guard.specs.Locking.{HasLocked}
+use Rattle.jo_guard.specs.Releasing.{HasReleased, recorded_by}
 use Rattle.jo_guard.proofs.Holding.{object_is, same_changes}
 use Rattle.jo_write.specs.Answers.{HasGrown, IsBeyond, IsPutFault, IsSpentBy, TakesStorage, least_above, need_for}
 use Rattle.jo_write.specs.declared.faults.PutFault.TheVariants as put_fault
@@ -60,7 +60,7 @@ recorded_put t o key value z e = ap (λ (a : Reply). if not (is_refusal a) && tr
 -- ---- an index beyond the room
 
 module _ {P : ℕ} {o : ObjId} {held : HeldView} {v w x : View} {key : Key} {index : ℕ}
-    (value : Value) (taken : HasTaken P o held v w) (only : OnlyCounts w x) (here : (key ≡ Index index) × ((lock_of w).room ≤ index)) where
+    (value : Value) (taken : HasLocked P o held v w) (only : OnlyCounts w x) (here : (key ≡ Index index) × ((lock_of w).room ≤ index)) where
   -- neither it nor an index above it is there, where the object is as it was when the lock was taken
   is_beyond : (z : Object) → z ≡ (lock_of w).content → IsBeyond z index
   is_beyond z e i le = ap (λ (q : Object). property q (Index i)) e ∙ taken.taken.properties.beyond i (let room = here.1 in omega arith)
@@ -86,7 +86,7 @@ module _ {P : ℕ} {o : ObjId} {held : HeldView} {v w x : View} {key : Key} {ind
     used_then : y.storage.used ≡ v.storage.used + need_for (Index index)
     used_then = made.used ∙ ap (λ n. n + need_for (Index index)) (read_used taken only)
 
-    module _ {u : View} {own : Storage} (left : HasLetGo P (Place (call.Put o key value)) own y u) (named : own.used ≡ y.storage.used) where
+    module _ {u : View} {own : Storage} (left : HasReleased P (Place (call.Put o key value)) own y u) (named : own.used ≡ y.storage.used) where
       seen_then : u.past.seen ≡ left.log ++ change v.number (call.Put o (Index index) value) ∷ []
       seen_then =
           let t : y.number ≡ v.number = ap (λ (q : View). q.number) made.only ∙ (ap (λ (q : View). q.number) only ∙ ap (λ (q : View). q.number) taken.only) in
@@ -112,7 +112,7 @@ module _ {P : ℕ} {o : ObjId} {held : HeldView} {v w x : View} {key : Key} {ind
       pub takes : TakesStorage P o key value v u
       takes = subst (λ (k : Key). TakesStorage P o k value v u) (sym here.0) (inr has_grown)
 
-  -- ---- storage that does not do for it
+  -- ---- storage that does not suffice for it
 
   module _ {spent : Spent} (much : IsTooMuch x (least_above ELEMENT_CAPACITIES index) spent) where
     pub spent_by : IsSpentBy (need_for (Index index)) v spent
@@ -135,7 +135,7 @@ module _ {P : ℕ} {o : ObjId} {held : HeldView} {v w x : View} {key : Key} {ind
           used = omega (arith, is.used, tidy.storage);
         }
 
-    pub fault : {u : View} {own : Storage} {c : call.the_data} → HasLetGo P (Refuse c spent) own x u → IsPutFault P o key v u (put_fault.Spent spent)
+    pub fault : {u : View} {own : Storage} {c : call.the_data} → HasReleased P (Refuse c spent) own x u → IsPutFault P o key v u (put_fault.Spent spent)
     fault {u} {own} {c} left =
         let seen : left.log ≡ u.past.seen = sym (left.seen ∙ append-nil left.log) in
         let object : object_of (after P u.past.seen) o ≡ (lock_of w).content =

@@ -9,7 +9,7 @@ pub enum NewFault {
     /// The pass has made as many objects as it may.
     #[error("more than 4096 objects")]
     ObjectsSpent,
-    /// Its storage does not do for the block of one more.
+    /// Its storage does not suffice for the block of one more.
     #[error("{} words of storage used, {} more needed", .0.used, .0.need)]
     Spent(Spent),
 }
@@ -20,7 +20,7 @@ pub enum PutFault {
     /// The object has 64 names, and this is none of them.
     #[error("more than 64 names")]
     TooManyNames,
-    /// The storage of the pass does not do for more elements.
+    /// The storage of the pass does not suffice for more elements.
     #[error("{} words of storage used, {} more needed", .0.used, .0.need)]
     Spent(Spent),
 }

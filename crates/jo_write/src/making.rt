@@ -8,7 +8,7 @@ ghost use Rattle.jo_model.specs.declared.call.Spent.{Spent};
 ghost use Rattle.jo_rule.specs.Dictionaries.{block_size};
 ghost use Rattle.jo_rule.specs.Steps.{born_cell};
 ghost use Rattle.jo_steps.specs.Holding.{next_object};
-ghost use Rattle.jo_steps.specs.Telling.{Looked, MayPlaceByLoad};
+ghost use Rattle.jo_steps.specs.Effects.{Looked, MayPlaceByLoad};
 ghost use Rattle.jo_dict.specs.Blocks.{IsTooMuch};
 ghost use Rattle.jo_guard.specs.Ready.{IsReady};
 ghost use Rattle.jo_guard.specs.Placing.{HasPlaced};
@@ -22,8 +22,8 @@ use jo_rule::Event;
 use jo_steps::{Heap, Pass};
 use jo_value::{Cell, Kind, MOST_OBJECTS, MOST_STRUCTURES, ObjId, Sid, cell_word};
 
-/// The next object of the pass, without properties. That it has made as many as it may is said before that its storage does
-/// not do.
+/// The next object of the pass, without properties. That it has made as many as it may is said before that its storage
+/// is too small.
 #[tactic(auto, using(crate::proofs::Looks::objects_spent))]
 pub fn new_object(heap: &Heap, pass: &mut Pass) -> Result<ObjId, NewFault>
     requires ready { IsReady heap.now pass.old }

@@ -22,7 +22,7 @@ ghost use Rattle.jo_write.specs.declared.faults.PutFault.TheVariants as put_faul
 use crate::PutFault;
 use crate::rooms::block_with;
 use jo_dict::{Place, add, find, locate, take_out};
-use jo_guard::{let_go, let_go_moved, wait_for_lock};
+use jo_guard::{release, release_moved, wait_for_lock};
 use jo_model::{Call, Spent};
 use jo_rule::Event;
 use jo_steps::{Heap, Held, Pass};
@@ -55,20 +55,20 @@ pub fn put<R: Wait>(
     match locate(heap, pass, &held, key) {
         Place::At(spot) => {
             add(heap, pass, &held, spot, value);
-            let_go(heap, pass, held, Event::Place(call));
+            release(heap, pass, held, Event::Place(call));
             Ok(())
         }
         Place::NoMoreNames => {
-            let_go(heap, pass, held, Event::Place(call));
+            release(heap, pass, held, Event::Place(call));
             Err(PutFault::TooManyNames)
         }
         Place::Beyond(index) => match block_with(heap, pass, &held, index, value) {
             Ok(address) => {
-                let_go_moved(heap, pass, held, address, Event::Place(call));
+                release_moved(heap, pass, held, address, Event::Place(call));
                 Ok(())
             }
             Err(spent) => {
-                let_go(heap, pass, held, Event::Refuse(call, spent));
+                release(heap, pass, held, Event::Refuse(call, spent));
                 Err(PutFault::Spent(spent))
             }
         },
@@ -93,7 +93,7 @@ pub fn delete<R: Wait>(
     let held = wait_for_lock(rt, heap, pass, o);
     let place = locate(heap, pass, &held, key);
     take_out(heap, pass, &held, place);
-    let_go(
+    release(
         heap,
         pass,
         held,
@@ -127,7 +127,7 @@ pub fn cas<R: Wait>(
         expected,
         desired,
     };
-    let_go(heap, pass, held, Event::Place(call));
+    release(heap, pass, held, Event::Place(call));
     match slot {
         Slot::Holds(value) => value,
         Slot::Absent => Value::Undefined,

@@ -2,10 +2,10 @@
 use Rattle.std.specs.Prelude.{◌≡◌, ℕ, nat_eq, if◌then◌else◌, List, [], ◌∷◌, length, Option, None, Some}
 use Rattle.std.specs.HashMap.{get, HashMap}
 use Rattle.std.specs.Option.{unwrap_or}
-use Rattle.jo_tree.specs.declared.script.Item.{Item}
-use Rattle.jo_tree.specs.declared.script.Item.TheVariants as i
-use Rattle.jo_tree.specs.Blocks.{names_of}
-use Rattle.jo_tree.specs.ScriptViews.{let_list}
+use Rattle.jo_parse_tree.specs.declared.script.Item.{Item}
+use Rattle.jo_parse_tree.specs.declared.script.Item.TheVariants as i
+use Rattle.jo_parse_tree.specs.Blocks.{names_of}
+use Rattle.jo_parse_tree.specs.ScriptViews.{let_list}
 use Rattle.jo_meaning.specs.State.{Environment}
 use Rattle.jo_code.specs.declared.scope.Declared.{Declared}
 

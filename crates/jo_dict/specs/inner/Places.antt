@@ -15,11 +15,11 @@ pub record IsNamed (words : ℕ → ℕ) (name : NameId) (names place : ℕ) : T
   pub few : names ≤ DICTIONARY_NAMES
   pub at : IsPlaceOf words names name.0 place
 
--- the first so many pairs have names
+-- the first `names` pairs have names
 pub record AreNameWords (words : ℕ → ℕ) (names : ℕ) : Type 0 where
   pub small : (j : ℕ) → j < names → words (2 + 2 * j) < 2 ^ 16
 
--- the names of the first so many pairs
+-- the names of the first n pairs
 abbrev pub names_in : (words : ℕ → ℕ) → ℕ → List NameId
 names_in words zero = []
 names_in words (suc n) = names_in words n ++ record { 0 = words (2 + 2 * n) } ∷ []

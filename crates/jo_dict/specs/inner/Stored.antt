@@ -26,7 +26,7 @@ pub record Fills (v : View) (k word : ℕ) (u : View) : Type 0 where
   pub words : Stores (fresh_words v) k word (fresh_words u)
   pub only : OnlyStorage v u
 
--- Words from 1 on, so many with word 0, were copied to the own storage, from its word `first` on. All others there are as they were.
+-- Words 1 to `size` - 1 were copied to the own storage, behind its word `first`. All others there are as they were.
 pub record Copies (words : ℕ → ℕ) (first size : ℕ) (old new : ℕ → ℕ) : Type 0 where
   pub copied : (k : ℕ) → 0 < k → k < size → new (first + k) ≡ words k
   pub before : (j : ℕ) → j ≤ first → new j ≡ old j

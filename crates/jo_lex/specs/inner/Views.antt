@@ -4,8 +4,8 @@ use Rattle.std.specs.Borrow.{Bor}
 use Rattle.std.specs.List.{list_all}
 use Rattle.std.specs.String.{string_bytes}
 use Rattle.std.specs.Str.{chars}
-use Rattle.jo_tree.specs.declared.keyword.Keyword.{Keyword}
-use Rattle.jo_tree.specs.Words.{keyword_of}
+use Rattle.jo_parse_tree.specs.declared.keyword.Keyword.{Keyword}
+use Rattle.jo_parse_tree.specs.Words.{keyword_of}
 use Rattle.jo_lex.specs.declared.literal.Stroke.{Stroke}
 use Rattle.jo_lex.specs.declared.literal.Stroke.TheVariants.{Close, Escape, Take, Refuse}
 use Rattle.jo_lex.specs.declared.punct.Punct.{Punct}

@@ -1,7 +1,7 @@
 -- Which block a use means, and which variable.
 use Rattle.std.specs.Prelude.{ℕ, ◌≤◌, ◌<◌, Bool, true, false, List, [], ◌∷◌, ◌++◌, length}
-use Rattle.jo_tree.specs.declared.word.Ident.{Ident}
-use Rattle.jo_grammar.specs.Declarations.{Scope, is_among}
+use Rattle.jo_parse_tree.specs.declared.word.Ident.{Ident}
+use Rattle.jo_parse_grammar.specs.Declarations.{Scope, is_among}
 
 -- the names of these scopes, as the meaning has them: those of the innermost block first
 abbrev pub around : List Scope → List ℕ

@@ -8,7 +8,7 @@ use jo_value::{Key, MOST_NAMES, NameId, Value};
 use std::alloc::Global;
 use std::marker::Model;
 
-/// An object of the slow heap. Contracts see its two lists of properties.
+/// An object of the reference heap. Contracts see its two lists of properties.
 #[derive(Drop)]
 pub struct PlainObject {
     names: Vec<(NameId, Value)>,

@@ -4,7 +4,7 @@ use Rattle.jo_lex.specs.declared.refusal.RefusalKind.TheVariants.{TooManyScripts
 use Rattle.jo_lex.specs.declared.refusal.ParseFault.{ParseFault}
 use Rattle.jo_lex.specs.declared.refusal.ParseFault.TheVariants.{Refused}
 use Rattle.jo_lex.specs.Faults.{IsMemoryOr}
-use Rattle.jo_grammar.specs.Cuts.{Section, end_of, sections_of, IsOneTooMany}
+use Rattle.jo_parse_grammar.specs.Cuts.{Section, end_of, sections_of, IsOneTooMany}
 use Rattle.jo_parse.specs.declared.section.Section.{Section as Held}
 
 -- a section that the code holds, and those of a list
@@ -18,6 +18,6 @@ sections_in parts = map section_of parts
 abbrev pub one_too_many : Section → ParseFault
 one_too_many section = Refused (record { kind = TooManyScripts; place = end_of section })
 
--- want of memory, or a script too many
+-- Memory, or a script too many
 abbrev pub IsCutFault : List ℕ → ParseFault → Type 0
 IsCutFault input = IsMemoryOr (λ refusal. (refusal.kind ≡ TooManyScripts) × IsOneTooMany (sections_of input) refusal.place)

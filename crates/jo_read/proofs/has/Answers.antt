@@ -6,27 +6,27 @@ use Rattle.jo_steps.specs.Holding.{lock_of}
 use Rattle.jo_read.proofs.Reading.{block_before, is_there, is_not_there, may_answer, read_placed, read_ready}
 use Rattle.jo_read.proofs.has.Goals as goal
 
-pub let_go-requires-clause-event : goal.let_go-requires-clause-event
-let_go-requires-clause-event g c = may_answer c.wait_for_lock-held.ensures.taken c.look-slot.ensures.only (Has c.args.o c.args.key) refl c.requires.valid tt
+pub release-requires-clause-event : goal.release-requires-clause-event
+release-requires-clause-event g c = may_answer c.wait_for_lock-held.ensures.taken c.look-slot.ensures.only (Has c.args.o c.args.key) refl c.requires.valid tt
 
 pub returns-in-Holds-clause-ready : goal.returns-in-Holds-clause-ready
 returns-in-Holds-clause-ready g c =
-    read_ready (Has c.args.o c.args.key) c.requires.ready c.let_go.ensures.pass c.wait_for_lock-held.ensures.taken c.look-slot.ensures.only c.let_go.ensures.view
+    read_ready (Has c.args.o c.args.key) c.requires.ready c.release.ensures.pass c.wait_for_lock-held.ensures.taken c.look-slot.ensures.only c.release.ensures.view
 
 pub returns-in-Holds-clause-placed : goal.returns-in-Holds-clause-placed
 returns-in-Holds-clause-placed g c =
     let taken = c.wait_for_lock-held.ensures.taken in
     let z = (lock_of c.wait_for_lock-held.new.pass.view).content in
     let slot = c.in-Holds.ensures.found z (block_before taken) in
-    read_placed taken c.look-slot.ensures.only (Has c.args.o c.args.key) (reply.Flag true) c.let_go.ensures.view (ap reply.Flag (is_there (property z c.args.key) c.in-Holds.field-0 slot))
+    read_placed taken c.look-slot.ensures.only (Has c.args.o c.args.key) (reply.Flag true) c.release.ensures.view (ap reply.Flag (is_there (property z c.args.key) c.in-Holds.field-0 slot))
 
 pub returns-in-Absent-clause-ready : goal.returns-in-Absent-clause-ready
 returns-in-Absent-clause-ready g c =
-    read_ready (Has c.args.o c.args.key) c.requires.ready c.let_go.ensures.pass c.wait_for_lock-held.ensures.taken c.look-slot.ensures.only c.let_go.ensures.view
+    read_ready (Has c.args.o c.args.key) c.requires.ready c.release.ensures.pass c.wait_for_lock-held.ensures.taken c.look-slot.ensures.only c.release.ensures.view
 
 pub returns-in-Absent-clause-placed : goal.returns-in-Absent-clause-placed
 returns-in-Absent-clause-placed g c =
     let taken = c.wait_for_lock-held.ensures.taken in
     let z = (lock_of c.wait_for_lock-held.new.pass.view).content in
     let slot = c.in-Absent.ensures.found z (block_before taken) in
-    read_placed taken c.look-slot.ensures.only (Has c.args.o c.args.key) (reply.Flag false) c.let_go.ensures.view (ap reply.Flag (is_not_there (property z c.args.key) slot))
+    read_placed taken c.look-slot.ensures.only (Has c.args.o c.args.key) (reply.Flag false) c.release.ensures.view (ap reply.Flag (is_not_there (property z c.args.key) slot))

@@ -1,8 +1,8 @@
 -- What is known of the codes and the machines of scripts.
 use Rattle.std.specs.Prelude.{◌≡◌, ℕ, List, length, slice_get, Some}
 use Rattle.jo_value.specs.Texts.{Table}
-use Rattle.jo_tree.specs.Trees.{Items}
-use Rattle.jo_grammar.specs.Sound.{IsSound}
+use Rattle.jo_parse_tree.specs.Trees.{Items}
+use Rattle.jo_parse_grammar.specs.Sound.{IsSound}
 use Rattle.jo_code.specs.Behaves.{Behaves}
 use Rattle.jo_code.specs.Machine.{interaction_by}
 use Rattle.jo_code.specs.Needs.{entries_of}

@@ -1,7 +1,7 @@
 -- What is known of the job of a script, before it runs and after.
 use Rattle.std.specs.Prelude.{◌≡◌, ℕ, ◌<◌, List, [], length, slice_index_or, None}
 use Rattle.jo_value.specs.Texts.{Table}
-use Rattle.jo_tree.specs.Trees.{Items}
+use Rattle.jo_parse_tree.specs.Trees.{Items}
 use Rattle.jo_model.specs.declared.call.Outcome.{Outcome}
 use Rattle.jo_rule.specs.declared.counts.Counts.{Counts}
 use Rattle.jo_rule.specs.Steps.{kept_of}
@@ -29,7 +29,7 @@ pub record HaveRunJobs (h : HeapView) (before after : List Job) : Type 0 where
   pub all : length after ≡ length before
   pub each : (k : ℕ) (d : Job) → k < length before → HasRunJob h (slice_index_or before k d) (slice_index_or after k d)
 
--- ---- where the first pass takes them in
+-- ---- where their passes are joined into the first one
 
 -- its pass holds no lock and keeps no other
 pub record MayJoin (h : HeapView) (job : Job) : Type 0 where
@@ -41,7 +41,7 @@ pub record MayJoin (h : HeapView) (job : Job) : Type 0 where
 abbrev pub kept_of_job : Job → Kept
 kept_of_job job = kept_of job.pass.view
 
--- what the first pass stays when it takes in another
+-- what of the first pass stays as it is when it joins another into itself
 pub record StaysFirst (v u : View) : Type 0 where
   pub number : u.number ≡ v.number
   pub made : u.made ≡ v.made
@@ -50,13 +50,13 @@ pub record StaysFirst (v u : View) : Type 0 where
   pub lock : u.lock ≡ v.lock
 
 -- what is left of a script, as plain data
-pub record Left : Type 0 where
+pub record ScriptEnd : Type 0 where
   pub outcome : Outcome
   pub lines : List ℕ
   pub counts : Counts
 
-abbrev pub left_in : EndedScript → Left
-left_in e = record { outcome = e.outcome; lines = e.lines.items; counts = e.counts }
+abbrev pub end_of_script : EndedScript → ScriptEnd
+end_of_script e = record { outcome = e.outcome; lines = e.lines.items; counts = e.counts }
 
-abbrev pub left_of : Job → Left
-left_of job = record { outcome = job.outcome; lines = job.machine.lines; counts = job.pass.view.counts }
+abbrev pub end_of_job : Job → ScriptEnd
+end_of_job job = record { outcome = job.outcome; lines = job.machine.lines; counts = job.pass.view.counts }

@@ -4,19 +4,19 @@ use Rattle.jo_value.specs.declared.limits.TheConstants.{MOST_STORAGE}
 use Rattle.jo_rule.specs.Names.{storage_at}
 use Rattle.jo_rule.specs.Views.{View}
 use Rattle.jo_steps.specs.Counting.{one_store}
-use Rattle.jo_steps.specs.Telling.{StoredOwn}
+use Rattle.jo_steps.specs.Effects.{StoredOwn}
 use Rattle.jo_steps.specs.inner.Goings.{GoesOn}
 
 -- the number of the first word of a pass's storage
 abbrev pub first_word : ℕ → ℕ → ℕ
 first_word passes pass = storage_at passes + MOST_STORAGE * pass
 
--- so much is used after a store to the word with this number: more where the word is own storage behind what was used
+-- how much is used after a store to word `at`: more where the word is own storage behind what was used
 abbrev pub used_after : ℕ → ℕ → ℕ → ℕ → ℕ
 used_after passes pass used at =
     if nat_le (first_word passes pass + used) at && nat_lt at (first_word passes pass + MOST_STORAGE) then at - first_word passes pass + 1 else used
 
--- so many objects are made after it: one more where it is before the storage
+-- how many objects are made after it: one more where it is before the storage
 abbrev pub objects_after : ℕ → ℕ → ℕ → ℕ
 objects_after passes objects at = objects + (if nat_lt at (storage_at passes) then 1 else 0)
 

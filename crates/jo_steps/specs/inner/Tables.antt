@@ -18,27 +18,27 @@ known_by v = record { view = v }
 abbrev pub views_of : List Known → List View
 views_of ks = map (λ k. k.view) ks
 
--- the table of so many passes has all words, and keeps the rule
+-- the table of `passes` passes has all words, and keeps the rule
 pub record Holds (passes : ℕ) (s : State (Unit {0}) Known) : Type 0 where
   pub all : length s.words ≡ words_in_all passes
   pub rule : Rule passes (words_of passes s.words) (views_of s.views)
 
 -- what a step tells: of the view before it, the word that it found, and the view after it
-abbrev pub Told : Type 1
-Told = View → ℕ → View → Type 0
+abbrev pub StepFact : Type 1
+StepFact = View → ℕ → View → Type 0
 
-abbrev pub nothing_told : Told
-nothing_told v found u = Unit {0}
+abbrev pub no_fact : StepFact
+no_fact v found u = Unit {0}
 
 -- Beside that, no step changes the slots of a seat, its number, or that it is live. After it the calls of a live pass are lawful in
 -- what it has seen.
-pub record HasTold (passes : ℕ) (of : Told) (v u : View) (found : ℕ) : Type 0 where
+pub record HasTold (passes : ℕ) (of : StepFact) (v u : View) (found : ℕ) : Type 0 where
   pub number : u.number ≡ v.number
   pub live : u.live ≡ v.live
   pub placed : v.live ≡ true → ArePlacedIn passes u.past.seen u.number u.past.calls
   pub told : of v found u
 
-abbrev pub tells : ℕ → Told → Step (Unit {0}) → Me (Unit {0}) Known → ℕ → Me (Unit {0}) Known → Type 0
+abbrev pub tells : ℕ → StepFact → Step (Unit {0}) → Me (Unit {0}) Known → ℕ → Me (Unit {0}) Known → Type 0
 tells passes told s m found after = (after.1 ≡ m.1) × HasTold passes told m.0.view after.0.view found
 
 -- Whatever the words and views are, a step on the word of this name keeps the rule and tells that, where the view at a seat

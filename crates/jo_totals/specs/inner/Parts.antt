@@ -19,12 +19,12 @@ both a b = record {
   sum = a.sum +ℤ b.sum;
 }
 
--- no further from 0 than a sum of so many numbers of 64 bits can be
+-- no further from 0 than a sum of `count` numbers of 64 bits can be
 pub record IsSumOf (count : ℕ) (sum : ℤ) : Type 0 where
   pub least : neg_ℤ (pos (count * 2 ^ 63)) ≤ℤ sum
   pub most : sum ≤ℤ pos (count * 2 ^ 63)
 
--- no more names and indexes than so many objects can have, and a sum of no more numbers than there are of both
+-- no more names and indexes than the objects can have, and a sum of no more numbers than there are of both
 pub record AreBounded (t : Totals) : Type 0 where
   pub names : t.names ≤ t.objects * MOST_NAMES
   pub elements : t.elements ≤ t.objects * 2 ^ 16

@@ -2,10 +2,10 @@
 use Rattle.std.specs.Prelude.{ℕ, List, map, slice_index_or}
 use Rattle.jo_value.specs.declared.value.TextId.{TextId}
 use Rattle.jo_value.specs.Texts.{Table, id_in}
-use Rattle.jo_tree.specs.Words.{keyword_text}
-use Rattle.jo_tree.specs.declared.keyword.Keyword.{Keyword}
-use Rattle.jo_tree.specs.declared.keyword.Keyword.TheVariants as keyword
-use Rattle.jo_tree.specs.declared.keyword.TheConstants.{KEYWORDS}
+use Rattle.jo_parse_tree.specs.Words.{keyword_text}
+use Rattle.jo_parse_tree.specs.declared.keyword.Keyword.{Keyword}
+use Rattle.jo_parse_tree.specs.declared.keyword.Keyword.TheVariants as keyword
+use Rattle.jo_parse_tree.specs.declared.keyword.TheConstants.{KEYWORDS}
 
 -- the place of a keyword among all of them
 abbrev pub place_of : Keyword → ℕ

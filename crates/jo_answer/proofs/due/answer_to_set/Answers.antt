@@ -1,7 +1,7 @@
 use Rattle.std.proofs.Common.{◌≡◌, ◌∙◌, ◌≤◌, length, sym, ap, arith}
 use Rattle.std.proofs.lemmas.List.{length-map}
 use Rattle.jo_value.specs.declared.limits.TheConstants.{MOST_SCRIPTS}
-use Rattle.jo_tree.specs.ScriptViews.{script_tree}
+use Rattle.jo_parse_tree.specs.ScriptViews.{script_tree}
 use Rattle.jo_model.proofs.WellFormed.{well_formed-after}
 use Rattle.jo_parse.specs.Parsed.{Parsed, trees_of}
 use Rattle.jo_answer.specs.Answers.{IsRun}
@@ -13,17 +13,17 @@ use Rattle.jo_answer.proofs.due.answer_to_set.Goals as goal
 pub returns-clause-due : goal.returns-clause-due
 returns-clause-due g c = λ bytes accepted.
     let set = c.args.set in
-    let order = c.args.order in
+    let options = c.args.options in
     let ended = c.in_ok-ended.ended in
     let scripts = trees_of set in
-    let run : IsRun order ended bytes (ended_bytes order.form set.1 ended) = record {
+    let run : IsRun options ended bytes (ended_bytes options.form set.1 ended) = record {
       scripts = scripts;
       texts = set.1;
       set = accepted;
       run = c.in_ok-ended.ensures;
-      output_is = output_left order.form scripts set.1 order.turns ended c.in_ok-ended.ensures;
+      output_is = output_left options.form scripts set.1 options.turns ended c.in_ok-ended.ensures;
     } in
-    due_of_run c.verdict_of.result order bytes (ended_bytes order.form set.1 ended) ended (rw (← c.deref.ensures.value) c.verdict_of.ensures) run
+    due_of_run c.verdict_of.result options bytes (ended_bytes options.form set.1 ended) ended (rw (← c.deref.ensures.value) c.verdict_of.ensures) run
 
 pub returns-clause-printable : goal.returns-clause-printable
 returns-clause-printable g c =

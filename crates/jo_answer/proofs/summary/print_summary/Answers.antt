@@ -4,8 +4,8 @@ use Rattle.std.proofs.lemmas.Int.{ints}
 use Rattle.std.specs.Fmt.{signed_decimal}
 use Rattle.std.specs.Int.{w128}
 use Rattle.jo_run.specs.Sets.{outcomes_of}
-use Rattle.jo_print.specs.Printers.{Prints}
-use Rattle.jo_print.proofs.Printed.{prints-both}
+use Rattle.jo_io.specs.Printers.{Prints}
+use Rattle.jo_io.proofs.Printed.{prints-both}
 use Rattle.jo_answer.proofs.summary.print_summary.Goals as goal
 
 pub returns : goal.returns

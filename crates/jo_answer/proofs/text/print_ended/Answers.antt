@@ -1,6 +1,6 @@
 use Rattle.std.proofs.Common.{rules}
-use Rattle.jo_print.proofs.Advancing.{advances-err}
-use Rattle.jo_print.proofs.Printed.{prints-whole}
+use Rattle.jo_io.proofs.Advancing.{advances-err}
+use Rattle.jo_io.proofs.Printed.{prints-whole}
 use Rattle.jo_answer.proofs.text.print_ended.Goals as goal
 
 pub returns-clause-err : goal.returns-clause-err

@@ -1,4 +1,4 @@
-use Rattle.jo_print.proofs.Printed.{prints-both}
+use Rattle.jo_io.proofs.Printed.{prints-both}
 use Rattle.jo_answer.proofs.text.print_part.Goals as goal
 
 pub returns-then-counted : goal.returns-then-counted

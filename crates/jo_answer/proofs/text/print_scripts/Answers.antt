@@ -1,5 +1,5 @@
 use Rattle.std.proofs.Common.{◌+◌}
-use Rattle.jo_print.proofs.Printed.{leaves-start, leaves-more}
+use Rattle.jo_io.proofs.Printed.{leaves-start, leaves-more}
 use Rattle.jo_model.proofs.Rests.{numbered-rest}
 use Rattle.jo_answer.specs.Texts.{part_bytes}
 use Rattle.jo_answer.proofs.text.print_scripts.Goals as goal

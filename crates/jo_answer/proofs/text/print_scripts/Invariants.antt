@@ -1,6 +1,6 @@
 use Rattle.std.proofs.Common.{◌+◌, drop}
 use Rattle.std.specs.List.{enumerate_from, flat_map}
-use Rattle.jo_print.proofs.Printed.{Leaves}
+use Rattle.jo_io.proofs.Printed.{Leaves}
 use Rattle.jo_answer.specs.Texts.{part_bytes}
 use Rattle.jo_answer.proofs.text.print_scripts.Given as goal
 

@@ -1,5 +1,5 @@
 use Rattle.std.proofs.Common.{sym, subst}
-use Rattle.jo_tree.specs.ScriptViews.{script_tree}
+use Rattle.jo_parse_tree.specs.ScriptViews.{script_tree}
 use Rattle.jo_code.specs.Behaves.{Behaves}
 use Rattle.jo_code.proofs.Scripts.{behaves}
 use Rattle.jo_code.proofs.Stating.{if_ok}

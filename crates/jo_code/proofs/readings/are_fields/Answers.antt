@@ -1,6 +1,6 @@
 use Rattle.std.proofs.Common.{◌+◌, ◌∙◌, ap, drop, sym}
-use Rattle.jo_tree.specs.Views.{accesses_list, accesses_with}
-use Rattle.jo_tree.proofs.Shapes.{accesses_with-key}
+use Rattle.jo_parse_tree.specs.Views.{accesses_list, accesses_with}
+use Rattle.jo_parse_tree.proofs.Shapes.{accesses_with-key}
 use Rattle.jo_code.specs.inner.Code.{are_fields}
 use Rattle.jo_code.proofs.Dropped.{drop-at}
 use Rattle.jo_code.proofs.readings.are_fields.Goals as goal

@@ -1,6 +1,6 @@
 use Rattle.std.proofs.Common.{◌≡◌, drop}
 use Rattle.jo_code.specs.inner.Code.{are_fields}
-use Rattle.jo_tree.specs.Views.{accesses_list}
+use Rattle.jo_parse_tree.specs.Views.{accesses_list}
 use Rattle.jo_code.proofs.readings.are_fields.Given as goal
 
 abbrev pub invariant-loop-access : goal.invariant-loop-access

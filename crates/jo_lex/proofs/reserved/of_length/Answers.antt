@@ -1,6 +1,6 @@
 use Rattle.std.proofs.Common.{◌==◌, List, ℕ, length, filter, sym, ap, arith}
 use Rattle.std.proofs.lemmas.Bool.Decides.{nat_tests}
-use Rattle.jo_tree.specs.Words.{keyword_of}
+use Rattle.jo_parse_tree.specs.Words.{keyword_of}
 use Rattle.jo_lex.specs.Words.{reserved_words}
 use Rattle.jo_lex.specs.inner.Views.{ReservedRow, reserved_rows}
 use Rattle.jo_lex.proofs.Lengths.{of_length-other}

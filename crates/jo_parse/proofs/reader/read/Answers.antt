@@ -1,10 +1,10 @@
 use Rattle.std.proofs.Common.{◌≡◌, ◌≤◌, ap, sym, subst, [], length, map, arith, rules}
 use Rattle.std.proofs.lemmas.List.{length-map}
 use Rattle.jo_value.specs.declared.limits.TheConstants.{MOST_INPUT, MOST_SCRIPTS}
-use Rattle.jo_tree.specs.ScriptViews.{script_tree}
-use Rattle.jo_grammar.specs.Cuts.{AreWithin}
-use Rattle.jo_grammar.specs.Sets.{IsAcceptedSet, IsParsed}
-use Rattle.jo_grammar.proofs.SetsAreSound.{sets_are_few, sets_are_sound}
+use Rattle.jo_parse_tree.specs.ScriptViews.{script_tree}
+use Rattle.jo_parse_grammar.specs.Cuts.{AreWithin}
+use Rattle.jo_parse_grammar.specs.Sets.{IsAcceptedSet, IsParsed}
+use Rattle.jo_parse_grammar.proofs.SetsAreSound.{sets_are_few, sets_are_sound}
 use Rattle.jo_parse.specs.Parsed.{IsSetFault}
 use Rattle.jo_parse.specs.inner.CutScripts.{IsCutFault, sections_in}
 use Rattle.jo_parse.specs.inner.Stages.{IsFirstNameFault}
@@ -42,10 +42,10 @@ returns-in_err-scripts-clause-refused c =
     c.in_ok-lexed.ensures.ok c.in_ok-lexed.ensures.something c.in_err-scripts.field-0.0 c.in_err-scripts.ensures.refused in
     search rules
 
-pub returns-in_err-judge_all-clause-refused : goal.returns-in_err-judge_all-clause-refused
-returns-in_err-judge_all-clause-refused c =
+pub returns-in_err-check_all_scopes-clause-refused : goal.returns-in_err-check_all_scopes-clause-refused
+returns-in_err-check_all_scopes-clause-refused c =
     let bytes = c.args.bytes.now in
-    let fault = c.in_err-judge_all.field-0.0 in
+    let fault = c.in_err-check_all_scopes.field-0.0 in
     let lexed = c.in_ok-lexed.lexed in
     let scripts = map script_tree c.in_ok-scripts.scripts.items in
     let parsed : IsParsed bytes scripts lexed.texts =
@@ -53,7 +53,7 @@ returns-in_err-judge_all-clause-refused c =
     c.in_ok-sections.ensures.ok c.in_ok-sections.ensures.few c.as_slice.ensures.value lexed.lists.items c.as_slice-2.result.now lexed.texts c.as_slice-2.ensures.value
     c.in_ok-lexed.ensures.ok c.in_ok-lexed.ensures.something scripts c.in_ok-scripts.ensures.ok in
     let refused : IsSetFault bytes fault =
-    name_fault bytes scripts lexed.texts fault parsed (subst (λ v. IsFirstNameFault (map script_tree v) fault) c.as_slice-3.ensures.value c.in_err-judge_all.ensures.refused) in
+    name_fault bytes scripts lexed.texts fault parsed (subst (λ v. IsFirstNameFault (map script_tree v) fault) c.as_slice-3.ensures.value c.in_err-check_all_scopes.ensures.refused) in
     search rules
 
 pub returns-clause-ok : goal.returns-clause-ok
@@ -61,7 +61,7 @@ returns-clause-ok c =
     is_accepted c.args.bytes.now c.in_ok-input.input.now c.in_ok-sections.sections.items c.as_slice.result.now c.in_ok-input.ensures.ok c.in_ok-input.ensures.same
     c.in_ok-sections.ensures.ok c.in_ok-sections.ensures.few c.as_slice.ensures.value c.in_ok-lexed.lexed.lists.items c.as_slice-2.result.now c.in_ok-lexed.lexed.texts
     c.as_slice-2.ensures.value c.in_ok-lexed.ensures.ok c.in_ok-lexed.ensures.something c.in_ok-scripts.scripts.items c.as_slice-3.result.now c.as_slice-3.ensures.value
-    c.in_ok-scripts.ensures.ok c.in_ok-judge_all.ensures.ok
+    c.in_ok-scripts.ensures.ok c.in_ok-check_all_scopes.ensures.ok
 
 pub invariant_of-result : goal.invariant_of-result
 invariant_of-result c =
@@ -72,7 +72,7 @@ invariant_of-result c =
     is_accepted c.args.bytes.now c.in_ok-input.input.now c.in_ok-sections.sections.items c.as_slice.result.now c.in_ok-input.ensures.ok c.in_ok-input.ensures.same
     c.in_ok-sections.ensures.ok c.in_ok-sections.ensures.few c.as_slice.ensures.value c.in_ok-lexed.lexed.lists.items c.as_slice-2.result.now c.in_ok-lexed.lexed.texts
     c.as_slice-2.ensures.value c.in_ok-lexed.ensures.ok c.in_ok-lexed.ensures.something c.in_ok-scripts.scripts.items c.as_slice-3.result.now c.as_slice-3.ensures.value
-    c.in_ok-scripts.ensures.ok c.in_ok-judge_all.ensures.ok in
+    c.in_ok-scripts.ensures.ok c.in_ok-check_all_scopes.ensures.ok in
     let few = sets_are_few bytes (map script_tree scripts) texts set in
     let same : length (map script_tree scripts) ≡ length scripts = length-map scripts script_tree in
     let most : length scripts ≤ MOST_SCRIPTS = omega (arith, few.1, same) in

@@ -1,7 +1,7 @@
 use Rattle.std.proofs.Common.{◌≡◌, ◌+◌, ◌<◌, length, true, false, ap, refl, sym, subst, ◌∙◌, arith, rules}
 use Rattle.std.proofs.lemmas.List.{length-map, nil_from_length}
 use Rattle.jo_value.specs.declared.limits.TheConstants.{MOST_SCRIPTS}
-use Rattle.jo_grammar.specs.Cuts.{AreWithin, is_separator, sections_of}
+use Rattle.jo_parse_grammar.specs.Cuts.{AreWithin, is_separator, sections_of}
 use Rattle.jo_parse.specs.inner.CutScripts.{IsCutFault, sections_in, section_of}
 use Rattle.jo_parse.proofs.Cutting.{IsUnderWay, begun, gone-on, begun-anew, last-is, one-too-many}
 use Rattle.jo_parse.proofs.Bounds.{sections_are_within}

@@ -10,6 +10,6 @@ returns-clause-judged g c =
     let said = answer.answer.verdict in
     let ended = ended_of answer.answer.due in
     let text = text_of answer.answer.due in
-    judged left left' c.args.order said ended text
-    (answered left left' c.args.order said c.deref.result.now ended text
+    judged left left' c.args.options said ended text
+    (answered left left' c.args.options said c.deref.result.now ended text
     (rw c.deref.ensures.value c.in_ok-bytes.ensures.read) (rw c.deref.ensures.value c.in_ok-bytes.ensures.whole) answer.ensures.whole answer.ensures.due)

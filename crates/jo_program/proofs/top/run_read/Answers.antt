@@ -11,11 +11,11 @@ returns-in-Ok-clause-kept g c =
     let left = g.S.Source.left c.args.source.now in
     let left' = g.S.Source.left c.answer_of.new.source in
     let text = text_of c.in-Ok.answer.due in
-    let is = λ (said : Verdict) (written : List ℕ). IsAnswer c.args.order said left left' c.print.result.ended written in
-    kept_of_printed is said text (g.K.Sink.held c.args.sink.now) (g.K.Sink.held c.print.new.sink) c.print.result.status c.print.ensures.printed
-    (subst (λ e. IsAnswer c.args.order said left left' e text) (sym c.print.ensures.ended) c.in-Ok.ensures.due)
+    let is = λ (said : Verdict) (written : List ℕ). IsAnswer c.args.options said left left' c.print_answer.result.ended written in
+    kept_of_printed is said text (g.K.Sink.held c.args.sink.now) (g.K.Sink.held c.print_answer.new.sink) c.print_answer.result.status c.print_answer.ensures.printed
+    (subst (λ e. IsAnswer c.args.options said left left' e text) (sym c.print_answer.ensures.ended) c.in-Ok.ensures.due)
 
 pub returns-in-Ok-clause-judged : goal.returns-in-Ok-clause-judged
 returns-in-Ok-clause-judged g c =
-    judged_printed_of (g.S.Source.left c.args.source.now) (status_of c.in-Ok.answer.verdict) c.print.result.status
-    c.print.ensures.printed.said c.in-Ok.ensures.judged
+    judged_printed_of (g.S.Source.left c.args.source.now) (status_of c.in-Ok.answer.verdict) c.print_answer.result.status
+    c.print_answer.ensures.printed.said c.in-Ok.ensures.judged

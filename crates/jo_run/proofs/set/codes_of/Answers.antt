@@ -1,7 +1,7 @@
 use Rattle.std.proofs.Common.{◌≡◌, List, length, slice_get, Some, sym, subst, arith}
 use Rattle.std.proofs.lemmas.Grind.{common_steps}
 use Rattle.jo_code.specs.declared.instruction.Instruction.{Instruction}
-use Rattle.jo_tree.specs.ScriptViews.{script_tree}
+use Rattle.jo_parse_tree.specs.ScriptViews.{script_tree}
 use Rattle.jo_parse.specs.Parsed.{trees_of}
 use Rattle.jo_run.specs.inner.Begun.{Beside, IsCodeOf}
 use Rattle.jo_run.proofs.Places.{beside_more}

@@ -1,6 +1,6 @@
 use Rattle.std.proofs.Common.{List, ◌++◌, map, ap, ◌∙◌}
 use Rattle.jo_run.specs.declared.set.EndedScript.{EndedScript}
-use Rattle.jo_run.specs.inner.Jobs.{left_in, left_of}
+use Rattle.jo_run.specs.inner.Jobs.{end_of_script, end_of_job}
 use Rattle.jo_run.proofs.Whole.{first_opened, all_ready, all_may_join, all_joined, have_ended}
 use Rattle.jo_run.proofs.set.run_over.Goals as goal
 
@@ -10,13 +10,13 @@ run_jobs-requires-clause-ready g c κs within =
     c.remove-first.result c.remove-first.new.self.items c.remove-first.ensures.value c.remove-first.ensures.items
     c.hand_out.new.jobs.items c.hand_out.ensures.passes c.hand_out.ensures.machines
 
-pub take_in-requires-clause-first : goal.take_in-requires-clause-first
-take_in-requires-clause-first g c =
+pub join_all-requires-clause-first : goal.join_all-requires-clause-first
+join_all-requires-clause-first g c =
     (first_opened c.args.heap c.args.passes.items c.args.machines.items c.requires.opened.0 c.requires.opened.1 c.requires.machines.1
     c.remove-first.result c.remove-first.new.self.items c.remove-first.ensures.value c.remove-first.ensures.items).0
 
-pub take_in-requires-clause-jobs : goal.take_in-requires-clause-jobs
-take_in-requires-clause-jobs g c =
+pub join_all-requires-clause-jobs : goal.join_all-requires-clause-jobs
+join_all-requires-clause-jobs g c =
     all_may_join c.args.heap c.args.passes.items c.args.machines.items c.requires.opened.0 c.requires.opened.1 c.requires.machines.1
     c.remove-first.result c.remove-first.new.self.items c.remove-first.ensures.value c.remove-first.ensures.items
     c.hand_out.new.jobs.items c.hand_out.ensures.passes c.hand_out.ensures.machines c.run_jobs.new.jobs.items c.run_jobs.ensures
@@ -26,13 +26,13 @@ close-requires-clause-joined g c =
     all_joined c.args.heap c.args.passes.items c.args.machines.items c.requires.opened.0 c.requires.opened.1 c.requires.machines.1
     c.remove-first.result c.remove-first.new.self.items c.remove-first.ensures.value c.remove-first.ensures.items
     c.hand_out.new.jobs.items c.hand_out.ensures.passes c.hand_out.ensures.machines c.run_jobs.new.jobs.items c.run_jobs.ensures
-    c.take_in.new.first.view c.take_in.ensures.stays c.take_in.ensures.kept
+    c.join_all.new.first.view c.join_all.ensures.stays c.join_all.ensures.kept
 
 pub returns : goal.returns
 returns g c =
-    let none = ap (λ (l : List EndedScript). map left_in l ++ map left_of c.run_jobs.new.jobs.items) c.requires.ended.0 in
+    let none = ap (λ (l : List EndedScript). map end_of_script l ++ map end_of_job c.run_jobs.new.jobs.items) c.requires.ended.0 in
     have_ended c.args.heap c.args.passes.items c.args.machines.items c.requires.opened.0 c.requires.opened.1 c.requires.machines.1
     c.remove-first.result c.remove-first.new.self.items c.remove-first.ensures.value c.remove-first.ensures.items
     c.hand_out.new.jobs.items c.hand_out.ensures.passes c.hand_out.ensures.machines c.run_jobs.new.jobs.items c.run_jobs.ensures
-    c.take_in.new.first.view c.take_in.ensures.stays c.take_in.ensures.kept
-    c.take_in.new.ended.items c.close.result (c.take_in.ensures.ended ∙ none) c.close.ensures.closed c.close.ensures.history
+    c.join_all.new.first.view c.join_all.ensures.stays c.join_all.ensures.kept
+    c.join_all.new.ended.items c.close.result (c.join_all.ensures.ended ∙ none) c.close.ensures.closed c.close.ensures.history

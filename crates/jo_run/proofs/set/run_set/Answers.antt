@@ -1,5 +1,5 @@
 use Rattle.std.proofs.Common.{◌∙◌, subst, arith}
-use Rattle.jo_tree.specs.ScriptViews.{script_tree}
+use Rattle.jo_parse_tree.specs.ScriptViews.{script_tree}
 use Rattle.jo_parse.specs.Parsed.{trees_of}
 use Rattle.jo_run.specs.inner.Begun.{AreAtCodes}
 use Rattle.jo_run.proofs.Places.{len_map}

@@ -4,7 +4,7 @@ use Rattle.jo_model.specs.declared.call.Call.TheVariants as call
 use Rattle.jo_model.specs.declared.call.Reply.TheVariants as reply
 use Rattle.jo_rule.specs.Views.{View}
 use Rattle.jo_steps.specs.Holding.{next_object}
-use Rattle.jo_steps.specs.Telling.{Born}
+use Rattle.jo_steps.specs.Effects.{Born}
 use Rattle.jo_guard.specs.Placing.{HasPlaced}
 use Rattle.jo_write.proofs.Births.{birth_placed, birth_ready, birth_used}
 use Rattle.jo_write.proofs.making.bear.Goals.{After-store_own}

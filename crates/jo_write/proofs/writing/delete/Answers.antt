@@ -5,8 +5,8 @@ use Rattle.jo_guard.proofs.Finishing.{ready_still}
 use Rattle.jo_write.proofs.Held.{held_written, written_used}
 use Rattle.jo_write.proofs.writing.delete.Goals as goal
 
-pub let_go-requires-clause-event : goal.let_go-requires-clause-event
-let_go-requires-clause-event g c =
+pub release-requires-clause-event : goal.release-requires-clause-event
+release-requires-clause-event g c =
     let held = held_written c.wait_for_lock-held.ensures.taken c.locate-place.ensures.only c.take_out.new.pass.view c.take_out.ensures.only c.take_out.ensures.held.lock in
     may_place held (call.Delete c.args.o c.args.key) refl c.requires.valid tt
 
@@ -16,4 +16,4 @@ returns-clause-ready g c =
     let looked = c.locate-place.ensures.only in
     let u = c.take_out.new.pass.view in
     let only = c.take_out.ensures.only in
-    ready_still c.requires.ready c.let_go.ensures.pass (held_written taken looked u only c.take_out.ensures.held.lock) c.let_go.ensures.view (written_used taken looked u only)
+    ready_still c.requires.ready c.release.ensures.pass (held_written taken looked u only c.take_out.ensures.held.lock) c.release.ensures.view (written_used taken looked u only)

@@ -1,8 +1,8 @@
 use Rattle.std.proofs.Common.{arith, length, ◌-◌, ◌∙◌, ap, refl, sym}
 use Rattle.std.specs.Prelude.{◌==◌}
-use Rattle.jo_tree.specs.declared.expr.Binary.{out-Binary}
-use Rattle.jo_tree.specs.declared.expr.Link.{Link}
-use Rattle.jo_tree.specs.Views.{accesses_list, chain_tree, expr_tree, primary_tree}
+use Rattle.jo_parse_tree.specs.declared.expr.Binary.{out-Binary}
+use Rattle.jo_parse_tree.specs.declared.expr.Link.{Link}
+use Rattle.jo_parse_tree.specs.Views.{accesses_list, chain_tree, expr_tree, primary_tree}
 use Rattle.jo_code.specs.declared.usage.Use.TheVariants as usage
 use Rattle.jo_code.specs.inner.Code.{code_of, late_of}
 use Rattle.jo_code.proofs.Accessed.{accesses-turn, deletes-put, is_none-empty, is_none-list, member-put}

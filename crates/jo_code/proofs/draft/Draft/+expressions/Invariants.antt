@@ -1,5 +1,5 @@
 use Rattle.std.proofs.Common.{◌≡◌, ◌≤◌, drop, length}
-use Rattle.jo_tree.specs.Views.{accesses_list, links_list, props_list}
+use Rattle.jo_parse_tree.specs.Views.{accesses_list, links_list, props_list}
 use Rattle.jo_code.specs.inner.Code.{Giver, fills_code, fused_code, links_code, reaches_code}
 use Rattle.jo_code.specs.inner.Emitted.{left_at, nothing}
 use Rattle.jo_code.proofs.Chained.{use_before}

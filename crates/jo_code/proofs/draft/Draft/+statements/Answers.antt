@@ -1,6 +1,6 @@
 use Rattle.std.proofs.Common.{◌∙◌, ap, refl, None, Some}
-use Rattle.jo_tree.specs.ScriptViews.{option_tree, statement_tree, optional_statement}
-use Rattle.jo_tree.specs.Views.{expr_tree}
+use Rattle.jo_parse_tree.specs.ScriptViews.{option_tree, statement_tree, optional_statement}
+use Rattle.jo_parse_tree.specs.Views.{expr_tree}
 use Rattle.jo_code.specs.inner.Stated.{test_code}
 use Rattle.jo_code.proofs.Stating.{on_ok, when_put, either_put, branch_put, round_put}
 use Rattle.jo_code.proofs.draft.Draft.+statements.Goals as goal

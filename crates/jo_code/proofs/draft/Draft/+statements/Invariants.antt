@@ -1,5 +1,5 @@
 use Rattle.std.proofs.Common.{◌≡◌, ◌≤◌, length, drop}
-use Rattle.jo_tree.specs.ScriptViews.{items_list}
+use Rattle.jo_parse_tree.specs.ScriptViews.{items_list}
 use Rattle.jo_code.specs.inner.StatementCode.{items_code}
 use Rattle.jo_code.proofs.draft.Draft.+statements.Given as goal
 

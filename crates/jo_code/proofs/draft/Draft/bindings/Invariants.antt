@@ -1,5 +1,5 @@
 use Rattle.std.proofs.Common.{◌≡◌, ◌≤◌, length, drop}
-use Rattle.jo_tree.specs.ScriptViews.{bindings_list}
+use Rattle.jo_parse_tree.specs.ScriptViews.{bindings_list}
 use Rattle.jo_code.specs.inner.StatementCode.{binds_code}
 use Rattle.jo_code.proofs.draft.Draft.bindings.Given as goal
 

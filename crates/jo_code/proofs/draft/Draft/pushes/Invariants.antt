@@ -1,5 +1,5 @@
 use Rattle.std.proofs.Common.{◌≡◌, ◌≤◌, length, drop}
-use Rattle.jo_tree.specs.ScriptViews.{trees_list}
+use Rattle.jo_parse_tree.specs.ScriptViews.{trees_list}
 use Rattle.jo_code.specs.inner.Code.{pushes_code}
 use Rattle.jo_code.proofs.draft.Draft.pushes.Given as goal
 

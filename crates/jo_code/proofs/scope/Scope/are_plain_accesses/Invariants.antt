@@ -1,6 +1,6 @@
 use Rattle.std.proofs.Common.{◌≡◌, drop}
 use Rattle.jo_code.specs.inner.Code.{are_plain_accesses}
-use Rattle.jo_tree.specs.Views.{accesses_list}
+use Rattle.jo_parse_tree.specs.Views.{accesses_list}
 use Rattle.jo_code.proofs.scope.Scope.are_plain_accesses.Given as goal
 
 abbrev pub invariant-loop-access : goal.invariant-loop-access

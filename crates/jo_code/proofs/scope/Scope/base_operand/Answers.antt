@@ -1,5 +1,5 @@
 use Rattle.std.proofs.Common.{arith}
-use Rattle.jo_tree.specs.Views.{primary_tree}
+use Rattle.jo_parse_tree.specs.Views.{primary_tree}
 use Rattle.jo_code.proofs.Accessed.{base_operand-at}
 use Rattle.jo_code.proofs.scope.Scope.base_operand.Goals as goal
 

@@ -1,6 +1,6 @@
 use Rattle.std.proofs.Common.{◌≡◌, ◌≤◌, ◌++◌, length, drop}
-use Rattle.jo_tree.specs.Blocks.{names_of}
-use Rattle.jo_tree.specs.ScriptViews.{bindings_list}
+use Rattle.jo_parse_tree.specs.Blocks.{names_of}
+use Rattle.jo_parse_tree.specs.ScriptViews.{bindings_list}
 use Rattle.jo_code.proofs.scope.Scope.enter_bindings.Given as goal
 
 abbrev pub invariant-loop-at : goal.invariant-loop-at

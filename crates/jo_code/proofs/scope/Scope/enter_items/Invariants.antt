@@ -1,6 +1,6 @@
 use Rattle.std.proofs.Common.{◌≡◌, ◌≤◌, ◌++◌, length, drop}
-use Rattle.jo_tree.specs.Blocks.{declared_in}
-use Rattle.jo_tree.specs.ScriptViews.{items_list}
+use Rattle.jo_parse_tree.specs.Blocks.{declared_in}
+use Rattle.jo_parse_tree.specs.ScriptViews.{items_list}
 use Rattle.jo_code.proofs.scope.Scope.enter_items.Given as goal
 
 abbrev pub invariant-loop-at : goal.invariant-loop-at

@@ -1,7 +1,7 @@
 use Rattle.std.proofs.Common.{◌∙◌, ap, sym}
 use Rattle.std.specs.Prelude.{◌&&◌}
-use Rattle.jo_tree.specs.Views.{accesses_with, expr_tree}
-use Rattle.jo_tree.proofs.Shapes.{accesses_with-key}
+use Rattle.jo_parse_tree.specs.Views.{accesses_with, expr_tree}
+use Rattle.jo_parse_tree.proofs.Shapes.{accesses_with-key}
 use Rattle.jo_code.specs.inner.Code.{are_plain_accesses, is_plain, is_quiet}
 use Rattle.jo_code.proofs.scope.Scope.is_plain_access.Goals as goal
 

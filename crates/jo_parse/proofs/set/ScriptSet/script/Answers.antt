@@ -1,7 +1,7 @@
 use Rattle.std.proofs.Common.{sym, subst, ◌<◌, length, arith, rules}
 use Rattle.std.proofs.lemmas.Grind.{common_steps}
-use Rattle.jo_tree.specs.ScriptViews.{script_tree}
-use Rattle.jo_grammar.specs.Sound.{IsSound}
+use Rattle.jo_parse_tree.specs.ScriptViews.{script_tree}
+use Rattle.jo_parse_grammar.specs.Sound.{IsSound}
 use Rattle.jo_parse.proofs.Scripts.{sound_at}
 use Rattle.jo_parse.proofs.set.ScriptSet.script.Goals as goal
 

@@ -23,19 +23,19 @@ join_seat-requires c =
       glues c.self.inside.table.shared.key p.id q.id p.me.0 q.me.0 c.into.invariant.1.live c.from.invariant.1.live (ap (λ (x : PassView). x.view.lock) c.from.view_is ∙ r.free),
     )
 
-pub load_as-requires-clause-keeps : goal.load_as-requires-clause-keeps
-load_as-requires-clause-keeps c =
+pub load_by-requires-clause-keeps : goal.load_by-requires-clause-keeps
+load_by-requires-clause-keeps c =
     let seat = c.join_seat.new.seat in
     keeps_still c.args.self.now.passes seat.id epoch seat.me.0.view (ap (λ (m : Me (Unit {0}) Known). m.0.view.live) c.join_seat.ensures.2 ∙ c.into.invariant.1.live)
 
 pub returns : goal.returns
 returns c =
     let e = c.join_seat.ensures in
-    let told = c.load_as.ensures.told in
+    let told = c.load_by.ensures.told in
     let into = c.into.view_is in
     let known = ap (λ (m : Me (Unit {0}) Known). m.0.view) e.2 in
     let view = told.told ∙ (known ∙ (λ i. joined (into i).view (c.from.view_is i).view)) in
     record {
-      pass = joined_of c.args.self.now c.args.into.now _ c.args.from.view c.requires.passes.0 (c.load_as.ensures.same.same_table ∙ (e.0 ∙ ap (λ (x : PassView). x.table) into)) view (told.placed (ap (λ (v : View). v.live) known ∙ c.into.invariant.1.live));
+      pass = joined_of c.args.self.now c.args.into.now _ c.args.from.view c.requires.passes.0 (c.load_by.ensures.same.same_table ∙ (e.0 ∙ ap (λ (x : PassView). x.table) into)) view (told.placed (ap (λ (v : View). v.live) known ∙ c.into.invariant.1.live));
       view = view;
     }

@@ -3,13 +3,13 @@ use Rattle.jo_model.specs.Heaps.{IsBorn}
 use Rattle.jo_model.specs.Logs.{after}
 use Rattle.jo_rule.specs.Views.{View}
 use Rattle.jo_steps.specs.Views.{PassView, IsPassOf}
-use Rattle.jo_steps.specs.Telling.{IsCellOf, Looked, MayPlaceByLoad}
+use Rattle.jo_steps.specs.Effects.{IsCellOf, Looked, MayPlaceByLoad}
 use Rattle.jo_steps.proofs.Loading.{born_there, keeps_look}
 use Rattle.jo_steps.proofs.Staying.{stays_of, stays_pass, placing_stays, load_counted}
 use Rattle.jo_steps.proofs.heap.Heap.load_cell.Goals as goal
 
-pub load_as-word-requires : goal.load_as-word-requires
-load_as-word-requires c =
+pub load_by-word-requires : goal.load_by-word-requires
+load_by-word-requires c =
     let P = c.args.self.now.passes in
     let p = c.pass.inside.seat in
     let is = subst (IsPassOf c.args.self.now) (sym c.pass.view_is) c.requires.pass in
@@ -24,14 +24,14 @@ load_as-word-requires c =
     }
 
 pub found_cell-requires : goal.found_cell-requires
-found_cell-requires c = let is = c.load_as-word.ensures.told.told.1 in (is.cell, is.is.is_cell, is.is_word)
+found_cell-requires c = let is = c.load_by-word.ensures.told.told.1 in (is.cell, is.is.is_cell, is.is_word)
 
 pub invariant_of-pass : goal.invariant_of-pass
 invariant_of-pass c =
     let v = c.pass.inside.seat.me.0.view in
-    let u = c.load_as-word.new.seat.me.0.view in
+    let u = c.load_by-word.new.seat.me.0.view in
     let i = c.pass.invariant in
-    let after = c.load_as-word.ensures in
+    let after = c.load_by-word.ensures in
     let look = after.told.told.0 in
     let counted = load_counted c.pass.inside.counts v.counts _ c.saturating_add-pass-inside.ensures i.1.same_counts in (
       after.same.same_slots ∙ i.0,
@@ -42,8 +42,8 @@ pub returns : goal.returns
 returns c =
     let P = c.args.self.now.passes in
     let v = c.pass.inside.seat.me.0.view in
-    let u = c.load_as-word.new.seat.me.0.view in
-    let after = c.load_as-word.ensures in
+    let u = c.load_by-word.new.seat.me.0.view in
+    let after = c.load_by-word.ensures in
     let look = after.told.told.0 in
     let found = after.told.told.1 in
     let of = subst (IsPassOf c.args.self.now) (sym c.pass.view_is) c.requires.pass in

@@ -1,5 +1,0 @@
-use Rattle.jo_calls_tests.specs.Working.{MayCall, Stays}
-use Rattle.jo_calls_tests.proofs.asks.fill.Given as goal
-
-abbrev pub invariant-loop-id : goal.invariant-loop-id
-invariant-loop-id g l = MayCall l.heap l.o l.pass × Stays l.initial.pass.view l.pass.view

@@ -1,0 +1,7 @@
+use Rattle.jo_heap_tests.proofs.Passes.{joined_two}
+use Rattle.jo_heap_tests.proofs.two_scripts.close_two.Goals as goal
+
+pub close-requires-clause-joined : goal.close-requires-clause-joined
+close-requires-clause-joined c =
+    joined_two c.args.first.view c.join.new.into.view c.join-2.new.into.view c.args.one.view c.args.two.view
+    c.requires.first.1 c.join.ensures.view c.join-2.ensures.view c.requires.one.1 c.requires.one.2 c.requires.two.1

@@ -1,7 +1,0 @@
-use Rattle.std.proofs.Common.{◌≡◌, drop, map}
-use Rattle.jo_grammar.specs.Sets.{faults_of_all}
-use Rattle.jo_tree.specs.ScriptViews.{script_tree}
-use Rattle.jo_parse.proofs.named.judge_all.Given as goal
-
-abbrev pub invariant-loop-script : goal.invariant-loop-script
-invariant-loop-script l = faults_of_all (map script_tree l.scripts) ≡ faults_of_all (map script_tree (drop l.script-index l.scripts))

@@ -1,5 +1,0 @@
-use Rattle.jo_print.proofs.Printed.{prints-both}
-use Rattle.jo_render.proofs.print.run.print_line.Goals as goal
-
-pub returns : goal.returns
-returns g c = prints-both (prints-both c.put_integer.ensures c.put.ensures) c.put-2.ensures

@@ -1,0 +1,26 @@
+use Rattle.std.proofs.Common.{ap, ◌∙◌, sym}
+use mathlib.Core.Option.{none}
+use Rattle.atomic_table.specs.Table.{step}
+use Rattle.jo_rule.specs.Names.{words_in_all}
+use Rattle.jo_steps.specs.Views.{HeapView}
+use Rattle.jo_steps.proofs.Turning.{stored, inside}
+use Rattle.jo_steps.proofs.access.store_by.Goals as goal
+
+pub store-requires : goal.store-requires
+store-requires g c =
+    let h = c.requires in
+    let s = c.heap.invariant in
+    let is = c.heap.view_is in
+    let p = c.args.seat.now in
+    let P = g.E.StepKind.passes in
+    let key = s.1 ∙ (ap (λ (x : HeapView). x.passes) is ∙ sym h.passes) in
+    let all = s.0 ∙ (ap (λ (x : HeapView). words_in_all x.passes) is ∙ ap words_in_all (sym h.passes)) in (
+      h.table ∙ sym (ap (λ (x : HeapView). x.table) is),
+      inside P _ _ g.E.StepKind.name h.place.0 h.place.1 all,
+      stored P _ c.args.at _ p.id c.args.word p.me g.E.StepKind.name g.E.StepKind.told (step c.heap.inside.table.shared.table_id.slots c.args.at c.args.word 0 none) key h.place.0 h.place.1 h.keeps,
+    )
+
+pub returns : goal.returns
+returns g c =
+    let e = c.store.ensures in
+    record { same = record { same_table = e.0; same_id = e.1; same_slots = e.2.0 }; told = e.2.1 }

@@ -1,0 +1,6 @@
+//! Runs one script over the reference heap.
+#![tactic(auto)]
+
+mod alone;
+
+pub use alone::{Ran, run_alone};

@@ -1,5 +1,0 @@
-pub mod Trees
-pub mod Views
-pub mod ScriptViews
-pub mod Words
-pub mod Blocks
