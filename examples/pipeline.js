@@ -1,6 +1,6 @@
 // A pipeline: script 1 makes numbers, script 2 squares them, script 3 adds them up. Between two scripts lies a slot with a
 // flag: who fills it puts the value first and then the flag, and who empties it reads the value first and then takes the
-// flag down. So no value is lost or read twice, and there is one output, however the three race.
+// flag down. So no value is lost or read twice, and where no script runs out of turns there is one output.
 let made = {full: false, value: 0}, squared = {full: false, value: 0};
 shared.made = made;
 shared.squared = squared;

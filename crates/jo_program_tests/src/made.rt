@@ -74,28 +74,27 @@ fn a_made_set_is_run_and_summed_up(rt: HostRuntime) -> Result<(), Fail> {
     Ok(())
 }
 
-// What is written with counts. A put of a new name loads the cell of the object, and the number of its names three times: to find
-// the name, to see that there is room, and to find its place. It stores the value, the name, the number of names and the cell, and
-// it takes one lock. A script that makes no call has no steps.
+// What is written with counts. A put of a first name loads the cell of the object and the number of its names. It stores the value,
+// the name, the number of names and the cell, and it takes one lock. A script that makes no call has no steps.
 const COUNTED: [(&[&str], &[u8], Status, &[u8]); 4] = [
     (
         &["run", "--stats"],
         b"shared.x = 1;",
         Status::Done,
-        b"1= done\n1# loads 4 stores 4 exchanges 0 locks 1\n#0.0 {\"x\": 1}\n",
+        b"1= done\n1# loads 2 stores 4 exchanges 0 locks 1\n#0.0 {\"x\": 1}\n",
     ),
     (
         &["run", "--stats"],
         b"print(1);\n%%\nshared.x = 1;",
         Status::Done,
         b"1| 1\n1= done\n1# loads 0 stores 0 exchanges 0 locks 0\n\
-2= done\n2# loads 4 stores 4 exchanges 0 locks 1\n#0.0 {\"x\": 1}\n",
+2= done\n2# loads 2 stores 4 exchanges 0 locks 1\n#0.0 {\"x\": 1}\n",
     ),
     (
         &["run", "--stats", "--turns", "1"],
         b"while (true) { shared.x = 1; }",
         Status::EndedWithFaults,
-        b"1= TurnsSpent\n1# loads 4 stores 4 exchanges 0 locks 1\n#0.0 {\"x\": 1}\n",
+        b"1= TurnsSpent\n1# loads 2 stores 4 exchanges 0 locks 1\n#0.0 {\"x\": 1}\n",
     ),
     (
         &["run", "--stats"],

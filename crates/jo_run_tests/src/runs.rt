@@ -78,25 +78,15 @@ pub(crate) struct Row<'a> {
     pub(crate) text: &'a str,
 }
 
-/// Runs the scripts of a row, and compares what comes of them. Words and scripts name a row that fails.
+/// Runs the scripts of a row, and compares what comes of them. The scripts name a row that fails.
 pub(crate) fn check<R: Abort + Threads + Wait + Sync>(
     rt: &R,
     alloc: Global,
     row: Row<'_>,
 ) -> Result<(), AllocError> {
+    let name = row.scripts.to_string(alloc)?;
     let ran = run_set(rt, alloc, row.words, row.scripts)?;
-    assert_eq!(rt;
-        ran.text.as_str(),
-        row.text,
-        "{:?} of {:?}",
-        row.words,
-        row.scripts
-    );
-    assert_eq!(rt;
-        ran.status,
-        row.status,
-        "{:?} of {:?}",
-        row.words, row.scripts
-    );
+    assert_eq!(rt; ran.status, row.status, "{name}");
+    assert_eq!(rt; ran.text.as_str(), row.text, "{name}");
     Ok(())
 }
