@@ -20,12 +20,13 @@ fn set_of(alloc: Global, script: &str) -> Result<ScriptSet, AllocError>
 }
 
 fn text_of(rt: &impl Abort, alloc: Global, script: &str) -> Result<String, AllocError> {
-    assert!(rt; script.len() < 1000);
+    assert!(rt; script.len() < 1000, "too long: {script}");
     let set = set_of(alloc, script)?;
     let code = compile(alloc, set.script(0))?;
     assert_eq!(rt;
         code.stack_need(),
-        code.entries().saturating_add(code.variables())
+        code.entries().saturating_add(code.variables()),
+        "{script}"
     );
     let text = listing(alloc, code.instructions())?;
     format!(in alloc; "{text}{} {}\n", code.entries(), code.variables())

@@ -92,6 +92,7 @@ fn is_answered(
 
 fn check(rt: &impl Abort, heap: &mut PlainHeap, rows: &[(Ask, Want)]) -> Result<(), AllocError> {
     for (row, (ask, want)) in rows.iter().enumerate() {
+        assert!(rt; heap.accepts(ask.call()), "row {row} is no valid call");
         assert!(rt; is_answered(rt, heap, *ask, *want)?, "row {row}");
     }
     Ok(())
@@ -207,7 +208,7 @@ fn the_sixty_fifth_name_is_refused(rt: HostRuntime) -> Result<(), Fail> {
 }
 
 #[test]
-fn a_pass_makes_so_many_objects(rt: HostRuntime) -> Result<(), Fail> {
+fn a_pass_makes_4096_objects_and_no_more(rt: HostRuntime) -> Result<(), Fail> {
     let mut heap = PlainHeap::new(rt.alloc(), 2)?;
     for serial in 0..4_096 {
         assert!(rt;

@@ -30,6 +30,18 @@ fn start_of(alloc: Global, script: &str, base: u32, texts: &mut Texts) -> Start
     }
 }
 
+// The script names a row that fails.
+fn check_row(
+    rt: &impl Abort,
+    alloc: Global,
+    (script, base, want): (&str, u32, Start),
+    texts: &mut Texts,
+) {
+    assert!(rt; base < 100, "too far: {script}");
+    assert!(rt; script.len() < 100, "too long: {script}");
+    assert!(rt; start_of(alloc, script, base, texts) == want, "{script}");
+}
+
 // A table that is full: the decimal numerals from 0 on.
 fn full(alloc: Global) -> Result<Texts, AllocError> {
     let mut texts = Texts::new(alloc);
@@ -90,12 +102,9 @@ const STARTS: [(&str, u32, Start); 21] = [
 
 #[test]
 fn a_script_begins_with_each_kind_of_token_or_refusal(rt: HostRuntime) -> Result<(), Fail> {
-    for &(script, base, want) in &STARTS {
+    for row in STARTS {
         let mut texts = Texts::new(rt.alloc());
-        assert!(rt; base < 100);
-        assert!(rt; script.len() < 100);
-        let start = start_of(rt.alloc(), script, base, &mut texts);
-        assert!(rt; start == want, "{script}");
+        check_row(&rt, rt.alloc(), row, &mut texts);
     }
     Ok(())
 }
@@ -109,10 +118,8 @@ const STARTS_AT_A_FULL_TABLE: [(&str, Start); 3] = [
 #[test]
 fn a_full_table_takes_no_new_text(rt: HostRuntime) -> Result<(), Fail> {
     let mut texts = full(rt.alloc())?;
-    for &(script, want) in &STARTS_AT_A_FULL_TABLE {
-        assert!(rt; script.len() < 100);
-        let start = start_of(rt.alloc(), script, 0, &mut texts);
-        assert!(rt; start == want, "{script}");
+    for (script, want) in STARTS_AT_A_FULL_TABLE {
+        check_row(&rt, rt.alloc(), (script, 0, want), &mut texts);
     }
     Ok(())
 }

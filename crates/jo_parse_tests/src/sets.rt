@@ -21,7 +21,7 @@ const LARGE: RefusalKind = RefusalKind::NumberTooLarge;
 
 #[derive(Clone, Copy, Debug, PartialEq)]
 enum Outcome {
-    // This number of scripts.
+    // How many scripts it has.
     Accepted(u8),
     Refused(RefusalKind, u32),
     Memory,
@@ -40,10 +40,15 @@ fn answer(alloc: Global, bytes: &[u8]) -> Outcome
     }
 }
 
+// The set names a row that fails.
+fn check_row(rt: &impl Abort, alloc: Global, set: &str, want: Outcome) {
+    assert!(rt; set.len() < 1000, "too long: {set}");
+    assert_eq!(rt; answer(alloc, set.as_bytes()), want, "{set}");
+}
+
 fn check(rt: &impl Abort, alloc: Global, rows: &[(&str, Outcome)]) {
     for (set, want) in rows {
-        assert!(rt; set.len() < 100);
-        assert_eq!(rt; answer(alloc, set.as_bytes()), *want, "{set}");
+        check_row(rt, alloc, set, *want);
     }
 }
 
@@ -169,7 +174,7 @@ fn expressions_are_read_by_the_grammar(rt: HostRuntime) {
     check(&rt, rt.alloc(), &EXPRESSIONS);
 }
 
-// The front `times` times, the middle, and the back as often.
+// The front as often as the number says, the middle, and the back as often.
 fn nested(
     alloc: Global,
     front: &str,
@@ -214,8 +219,7 @@ const BOUNDED: [(&str, &str, &str, usize, Outcome); 19] = [
 fn scripts_and_constructs_are_bounded(rt: HostRuntime) -> Result<(), Fail> {
     for (front, middle, back, times, want) in BOUNDED {
         let set = nested(rt.alloc(), front, middle, back, times)?;
-        assert!(rt; set.len() < 1000);
-        assert_eq!(rt; answer(rt.alloc(), set.as_bytes()), want, "{set}");
+        check_row(&rt, rt.alloc(), set.as_str(), want);
     }
     Ok(())
 }
@@ -227,9 +231,9 @@ fn bytes_that_are_not_utf8_are_refused_first(rt: HostRuntime) {
         (b"%%\n%%\n%%\n%%\n%%\n%%\n%%\n%%\n\xff", 24),
     ];
     for (bytes, place) in rows {
-        assert!(rt; bytes.len() < 100);
+        assert!(rt; bytes.len() < 100, "too long: {bytes:?}");
         let want = Outcome::Refused(RefusalKind::NotUtf8, place);
-        assert_eq!(rt; answer(rt.alloc(), bytes), want);
+        assert_eq!(rt; answer(rt.alloc(), bytes), want, "{bytes:?}");
     }
 }
 

@@ -98,9 +98,9 @@ fn check_fault(
 ) -> Result<(), AllocError> {
     let fault = written.len() as u64 + 1;
     let mut sink = sink_of(alloc, &[fault, fault + 1])?;
-    assert_eq!(rt; print(&mut sink, texts, heap), Err(Failed));
-    assert_eq!(rt; sink.bytes(), written);
-    assert_eq!(rt; sink.write(b"z"), Err(Failed));
+    assert_eq!(rt; print(&mut sink, texts, heap), Err(Failed), "write {fault}");
+    assert_eq!(rt; sink.bytes(), written, "write {fault}");
+    assert_eq!(rt; sink.write(b"z"), Err(Failed), "write {fault}");
     Ok(())
 }
 

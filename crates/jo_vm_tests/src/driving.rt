@@ -116,7 +116,7 @@ fn set_of(alloc: Global, script: &str) -> Result<ScriptSet, AllocError>
     }
 }
 
-/// What comes of a script with `turns` turns and these replies.
+/// What comes of a script with this number of turns and these replies.
 pub fn run(alloc: Global, script: &str, turns: u32, replies: &[Given]) -> Result<Story, AllocError>
     requires { length script.now ≤ MOST_INPUT }
 {

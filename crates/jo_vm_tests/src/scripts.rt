@@ -19,7 +19,7 @@ struct Row<'a> {
 }
 
 fn check(rt: &impl Abort, alloc: Global, row: Row<'_>) -> Result<(), AllocError> {
-    assert!(rt; row.script.len() < 1000);
+    assert!(rt; row.script.len() < 1000, "too long: {}", row.script);
     let story = run(alloc, row.script, row.turns, row.replies)?;
     assert_eq!(rt; story.asks.as_str(), row.asks, "{}", row.script);
     assert_eq!(rt; story.lines.as_str(), row.lines, "{}", row.script);
@@ -405,9 +405,9 @@ fn check_ending(
     script: &str,
     wanted: &str,
 ) -> Result<(), AllocError> {
-    assert!(rt; script.len() < 1000);
+    assert!(rt; script.len() < 1000, "too long: {script}");
     let found = ending(alloc, script, 300)?;
-    assert_eq!(rt; found.as_str(), wanted);
+    assert_eq!(rt; found.as_str(), wanted, "{script}");
     Ok(())
 }
 
