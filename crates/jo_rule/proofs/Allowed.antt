@@ -2,7 +2,7 @@
 use Rattle.std.proofs.Common.{◌≡◌, ℕ, true, false, List, set, sym, ap, ◌∙◌, subst, ⊎_elim, Option, Some}
 use mathlib.Core.Option.{some}
 use lib.ListN.{get_elem?}
-use Rattle.std.proofs.lemmas.Bool.{both_ways}
+use Rattle.std.proofs.lemmas.Bool.{both_ways, cases_Bool}
 use Rattle.jo_value.specs.declared.value.ObjId.{ObjId}
 use Rattle.jo_value.specs.declared.words.cell.Cell.{Cell}
 use Rattle.jo_rule.specs.Areas.{set_object}
@@ -29,3 +29,7 @@ allowed_cell {cells} views id v u at l same o c h kind = record {
 -- where an object is no dictionary, objects may be born flat
 pub never : {cells : ObjId → Option Cell} {views : List View} (h : Allowed cells views) (o : ObjId) (c : Cell) → cells o ≡ Some c → is_dictionary c.kind ≡ false → h.flat ≡ false → ⊥
 never h o c e other none_ = both_ways (is_dictionary c.kind) other (ap is_dictionary (h.dictionaries none_ o c e).kind)
+
+-- so the view of a pass says that they may
+pub may_flat : {cells : ObjId → Option Cell} {views : List View} (h : Allowed cells views) (id : ℕ) (v : View) → get_elem? views id ≡ some v → v.live ≡ true → (o : ObjId) (c : Cell) → cells o ≡ Some c → is_dictionary c.kind ≡ false → v.flat ≡ true
+may_flat h id v at l o c e other = ⊎_elim (λ (f : v.flat ≡ true). f) (λ (f : v.flat ≡ false). absurd (never h o c e other (sym (h.agreed id v at l) ∙ f))) (cases_Bool v.flat)

@@ -16,6 +16,7 @@ use Rattle.jo_model.specs.Heaps.{Heap, objects_of, object_of, with_new_object, I
 use Rattle.jo_model.specs.declared.call.Reply.TheVariants as reply
 use Rattle.jo_model.specs.One.{one}
 use Rattle.jo_model.specs.Logs.{after}
+use Rattle.jo_rule.proofs.Histories.{numbers}
 use Rattle.jo_rule.specs.declared.counts.Counts.{Counts}
 use Rattle.jo_rule.specs.declared.event.Event.TheVariants.{Place}
 use Rattle.jo_rule.specs.Names.{cell, is_word}
@@ -29,6 +30,8 @@ use Rattle.jo_rule.specs.Contents.{Role, Now, unborn_now, word_of_cell, is_born,
 use Rattle.jo_rule.specs.Owned.{address_of}
 use Rattle.jo_rule.specs.Rule.{Rule}
 use Rattle.jo_rule.specs.Steps.{MayBear, born_cell, with_named, with_birth}
+use Rattle.jo_rule.proofs.Concluded.{unopened_none, follows_unopened, concluded_event}
+use Rattle.jo_rule.proofs.Raised.{raised_cell}
 use Rattle.jo_rule.proofs.Lists.{no_item}
 use Rattle.jo_rule.proofs.Heaps.{passes-after, new-lengths, new-objects}
 use Rattle.jo_rule.proofs.Events.{after_new, event_valid, event_refuses, no_words, new_reply}
@@ -133,7 +136,9 @@ module _ {P : ℕ} {w : Words} {views : List View} (id : ℕ) (v : View) (r : Ru
             (λ g f. absurd (no_item g v.lock none_held f)) (λ q n g f e. absurd (no_item g v.lock none_held f)) (λ b. (let no : false ≡ true = b in absurd cc)))
             (pins_absent r id o c' (record unborn_now { settled = true; room = room }) (named_roles r.role (address_of t k) room o) (no_pins_unborn r o unborn) stamps)
             (sighted_dropped (r.sights.each id v at l) v.quarantine (stamps_kept (r.sights.each id v at l) o (record unborn_now { settled = true; room = room }) stamps))
-            (set_object r.so o true) (born_so_event P t (Place call.New) r.log (born_so_birth r.born_so o c' true unborn (λ k. refl) (λ k. (let no : false ≡ true = k in absurd cc)))) (λ h. absurd (⊎_elim (λ (f : false ≡ true). (let no : false ≡ true = f in cc)) (λ (f : false ≡ true). (let no : false ≡ true = f in cc)) h)) (counts_dictionary o r.shape c' refl (λ q n. new_counts P t r.log q)) (timed_dropped (r.timing.timed id v at l)),
+            (set_object r.so o true) (born_so_event P t (Place call.New) r.log (born_so_birth r.born_so o c' true unborn (λ k. refl) (λ k. (let no : false ≡ true = k in absurd cc)))) (λ h. absurd (⊎_elim (λ (f : false ≡ true). (let no : false ≡ true = f in cc)) (λ (f : false ≡ true). (let no : false ≡ true = f in cc)) h)) (counts_dictionary o r.shape c' refl (λ q n. new_counts P t r.log q))
+            (concluded_event views id v u at l (numbers same) r.concluded r.histories (Place call.New) (follows_unopened P r.log v.number (Place call.New) (unopened_none none_held)) (unopened_none none_held) refl refl)
+            (raised_cell views id v u at l (numbers same) r.histories r.raised refl refl o None c' unborn (omega arith)) (timed_dropped (r.timing.timed id v at l)),
         omega arith,
         new_reply (after P r.log) t (omega arith) ∙ ap (λ (n : ℕ). reply.Made (record { pass = t; serial = n })) (sym objects),
       )

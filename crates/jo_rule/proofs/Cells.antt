@@ -18,9 +18,15 @@ use Rattle.jo_value.specs.Words.{IsCell, cell_bits, slot_bits}
 use Rattle.jo_model.specs.Objects.{Object, property}
 use Rattle.jo_model.specs.Heaps.{Heap, object_of}
 use Rattle.jo_model.specs.Logs.{Log, after}
+use Rattle.jo_rule.specs.Raised.{Raised}
+use Rattle.jo_rule.proofs.Timing.{timed_owing}
+use Rattle.jo_rule.proofs.Raised.{many_deeper, raised_cell, raised_reason}
+use Rattle.jo_rule.proofs.Histories.{numbers}
+use Rattle.jo_rule.specs.Concluded.{NotOpened}
+use Rattle.jo_rule.proofs.Concluded.{follows_unopened, concluded_event}
 use Rattle.jo_rule.specs.declared.counts.Counts.{Counts}
 use Rattle.jo_rule.specs.declared.event.Event.{Event}
-use Rattle.jo_rule.specs.Names.{cell}
+use Rattle.jo_rule.specs.Names.{epoch, cell}
 use Rattle.jo_rule.specs.Areas.{Words, put, stored, set_object, set_number}
 use Rattle.jo_rule.specs.Marks.{Mark}
 use Rattle.jo_rule.specs.Shapes.{Shape, offset_of, names_of}
@@ -28,14 +34,14 @@ use Rattle.jo_rule.specs.Spots.{Spot, offset, element, Location, values, spot_of
 use Rattle.jo_rule.specs.Roles.{Role, frame, IsBlockOf}
 use Rattle.jo_rule.specs.Dictionaries.{slot_in}
 use Rattle.jo_rule.specs.Contents.{Now, is_keyed, is_flat, is_segmented, IsLoose, HasKeys, StandsAtPlaces, StandsAs, HasWords}
-use Rattle.jo_rule.specs.Puts.{AddsIn, TakesOut, MayAdd, MayTakeOut, Widens, names_with, left_of}
+use Rattle.jo_rule.specs.Puts.{AddsIn, TakesOut, MayGrow, MayAdd, MayTakeOut, Widens, names_with, left_of}
 use Rattle.jo_rule.specs.Views.{View, Pin, Licence, Storage, Quarantined}
 use Rattle.jo_rule.specs.Owned.{OwnsStorage}
-use Rattle.jo_rule.specs.Locks.{Locks}
+use Rattle.jo_rule.specs.Locks.{KeepsKind, Locks}
 use Rattle.jo_rule.specs.Events.{recorded, past_after, object_after_event, MayPlace, IsEventOn}
 use Rattle.jo_rule.specs.Rule.{Rule}
 use Rattle.jo_rule.specs.Steps.{no_sight}
-use Rattle.jo_rule.specs.Sights.{IsTight, Follows, stamp_in}
+use Rattle.jo_rule.specs.Sights.{watched, IsTight, Follows, stamp_in}
 use Rattle.jo_rule.proofs.Sets.{cases_object, object_here, object_else, number_here, number_else}
 use Rattle.jo_rule.proofs.Names.{same_object}
 use Rattle.jo_rule.proofs.Shapes.{option_cases, Removed, removed_back}
@@ -46,21 +52,25 @@ use Rattle.jo_rule.proofs.Contents.{standing}
 use Rattle.jo_rule.proofs.Locks.{moves_locks}
 use Rattle.jo_rule.proofs.Marked.{born_so_cell, born_so_event}
 use Rattle.jo_rule.proofs.Timing.{timed_dropped}
-use Rattle.jo_rule.proofs.Allowed.{never}
+use Rattle.jo_rule.proofs.Allowed.{may_flat, never}
 use Rattle.jo_rule.specs.Counted.{name_count, CountsGo}
 use Rattle.jo_rule.proofs.Counted.{counts_go}
 use Rattle.jo_rule.proofs.Contents.{keyed_no_dictionary}
 use Rattle.jo_rule.proofs.Events.{event_touches, event_words, event_valid, event_refuses}
 use Rattle.jo_rule.proofs.Sights.{sighted_dropped, kind_keyed, follows_at}
-use Rattle.jo_rule.proofs.Moves.{RolesGrow, moves, born_of, still_born}
+use Rattle.jo_rule.proofs.Moves.{object_within, RolesGrow, moves, born_of, still_born}
 use Rattle.jo_rule.proofs.Takes.{nobody}
 use Rattle.jo_rule.proofs.Stores.{numbers_of}
-use Rattle.jo_rule.proofs.Looks.{keyed_of, apart, flat_not_segmented}
+use Rattle.jo_rule.proofs.Looks.{keyed_of, apart, still, flat_not_segmented}
 use Rattle.jo_rule.proofs.Puts.{IsHidden}
 
 -- the view after a change of a cell by a pass that is its owner
 abbrev pub celling : ℕ → View → Event → Log Mark → Storage → List Quarantined → Counts → View
 celling passes v event log own quarantine counts = record v { past = past_after passes v.number event log v.past.calls; storage = own; sight = no_sight; quarantine = quarantine; counts = counts }
+
+-- and where it owes so many raises then
+abbrev pub celling_owing : ℕ → View → Event → Log Mark → Storage → List Quarantined → (owed : ℕ) → Counts → View
+celling_owing passes v event log own quarantine owed counts = record (celling passes v event log own quarantine counts) { time = record v.time { owed = owed } }
 
 and_false_left : (a b : Bool) → a ≡ false → (a && b) ≡ false
 and_false_left a b e = rw e refl
@@ -134,7 +144,7 @@ module _ {P : ℕ} {w : Words} {views : List View} (id : ℕ) (v : View) (r : Ru
       let k = r.locks.held id v at l g held in record {
         cell = object_else r.cell o g.object (Some c) far ∙ k.cell;
         bit = k.bit;
-        found = k.found;
+        found = subst (KeepsKind g.cell.kind g.found g.opened) (sym (ap (λ (z : Now). z.segmented) (object_else r.now o g.object now far))) k.found;
         holder_is = k.holder_is;
         settled = ap (λ (z : Now). z.settled) (object_else r.now o g.object now far) ∙ k.settled;
         sealed = ap (λ (z : Now). z.sealed) (object_else r.now o g.object now far) ∙ k.sealed;
@@ -146,19 +156,19 @@ module _ {P : ℕ} {w : Words} {views : List View} (id : ℕ) (v : View) (r : Ru
       (λ q n g f same. (g, sym lock ∙ f, same)) (λ b. absurd (both_ways c.locked free' b))
 
   -- What each store of a cell by a licensed owner owes.
-  licensed : (i : ℕ) (lic : Licence) (event : Event) (c : Cell) (now : Now) (role : ℕ → Role) (own : Storage) (quarantine : List Quarantined) (counts : Counts) → get_elem? v.sight.licences i ≡ some lic → r.cell lic.pin.object ≡ Some lic.pin.cell
-      → MayPlace P v event → IsEventOn lic.pin.object event → IsCell c → c.owner ≡ lic.pin.object.pass → (r.shape c.sid).born ≡ true → (r.shape c.sid).root ≡ lic.pin.object.pass → c.kind ≡ Flat → c.locked ≡ false → c.shared_write ≡ false → IsLoose false now
+  licensed : (i : ℕ) (lic : Licence) (event : Event) (c : Cell) (now : Now) (role : ℕ → Role) (own : Storage) (quarantine : List Quarantined) (owed : ℕ) (counts : Counts) → get_elem? v.sight.licences i ≡ some lic → r.cell lic.pin.object ≡ Some lic.pin.cell
+      → NotOpened v.lock → MayPlace P v event → IsEventOn lic.pin.object event → IsCell c → c.owner ≡ lic.pin.object.pass → (r.shape c.sid).born ≡ true → (r.shape c.sid).root ≡ lic.pin.object.pass → c.kind ≡ Flat → c.locked ≡ false → c.shared_write ≡ false → IsLoose false now
       → RolesGrow P (stored w) v.number r.role role → OwnsStorage (stored w) role v.number own → StandsAtPlaces (values w) role (r.shape c.sid) lic.pin.object c now (object_after_event event (object_of (after P r.log) lic.pin.object))
       → ((j : ℕ) (y : View) → j ≢ id → get_elem? views j ≡ some y → y.live ≡ true → (k : ℕ) (p : Pin) → get_elem? y.sight.pins k ≡ some p → is_keyed p.cell.kind ≡ true → p.object ≡ lic.pin.object → (name : NameId) (q : ℕ) → offset_of (r.shape p.cell.sid) name ≡ Some q → (offset_of (r.shape lic.pin.cell.sid) name ≡ Some q) ⊎ (p.epoch < (r.now lic.pin.object).stamps q) → (offset_of (r.shape c.sid) name ≡ Some q) ⊎ (p.epoch < now.stamps q))
-      → ((q : ObjId) (j : ℕ) → q.pass ≡ v.number → (set_object r.now lic.pin.object now q).stamps j ≡ stamp_in quarantine q j) → CountsGo P r.log (recorded P v.number event r.log) lic.pin.object r.shape c
-      → Rule P (put w (cell lic.pin.object) (cell_bits c)) (set views id (celling P v event r.log own quarantine counts))
-  licensed i lic event c now role own quarantine counts has there may on is owner born root kind free unshared loose roles owns places names stamps go =
+      → ((q : ObjId) (j : ℕ) → q.pass ≡ v.number → (set_object r.now lic.pin.object now q).stamps j ≡ stamp_in quarantine q j) → CountsGo P r.log (recorded P v.number event r.log) lic.pin.object r.shape c → Raised P r.made (w epoch) (set_object r.cell lic.pin.object (Some c)) r.shape (watched w) (set views id (celling_owing P v event r.log own quarantine owed counts))
+      → Rule P (put w (cell lic.pin.object) (cell_bits c)) (set views id (celling_owing P v event r.log own quarantine owed counts))
+  licensed i lic event c now role own quarantine owed counts has there closed may on is owner born root kind free unshared loose roles owns places names stamps go raised =
       let o = lic.pin.object in
       let d = lic.pin.cell in
       let h = r.sights.each id v at l in
       let plain = (h.licensed i lic has).plain in
       let mine : o.pass ≡ v.number = plain.own in
-      let u = celling P v event r.log own quarantine counts in
+      let u = celling_owing P v event r.log own quarantine owed counts in
       let same : SameItems v u = numbers_of v u refl refl refl refl refl refl in
       let touch = event_touches P v.number event r.log o on (born_of r o d there) in
       let lt = (r.histories.seated id v at l).own.1 in
@@ -188,17 +198,17 @@ module _ {P : ℕ} {w : Words} {views : List View} (id : ℕ) (v : View) (r : Ru
         stamps = λ j y n e ly q b. absurd (foreign j y n e ly b);
       }
       (sighted_dropped h quarantine stamps) r.so (born_so_event P v.number event r.log (born_so_cell r.born_so o c d there keyed_kind))
-      (λ f. absurd (⊎_elim (λ (g : c.shared_write ≡ true). both_ways c.shared_write unshared g) (λ (g : is_segmented c.kind ≡ true). both_ways (is_segmented c.kind) (ap is_segmented kind) g) f)) go (timed_dropped (r.timing.timed id v at l))
+      (λ f. absurd (⊎_elim (λ (g : c.shared_write ≡ true). both_ways c.shared_write unshared g) (λ (g : is_segmented c.kind ≡ true). both_ways (is_segmented c.kind) (ap is_segmented kind) g) f)) go (concluded_event views id v u at l (numbers same) r.concluded r.histories event (follows_unopened P r.log v.number event closed) closed refl refl) raised (timed_owing owed (timed_dropped (r.timing.timed id v at l)))
 
   -- A key is added by a licensed owner, at an offset that was never given out or an index, in the old block or a new one that is a copy.
   -- The cell is the pin's by a licence on writes, or where the exchange finds it.
   pub stores_cell : (i : ℕ) (lic : Licence) (event : Event) (c : Cell) (role : ℕ → Role) (own : Storage) (key : Key) (y : Spot) (a : Location) (x : ℕ) (counts : Counts) → get_elem? v.sight.licences i ≡ some lic → r.cell lic.pin.object ≡ Some lic.pin.cell
-      → MayAdd P v event lic.pin.object (r.shape lic.pin.cell.sid) key x → IsCell c → c.owner ≡ lic.pin.object.pass → c.kind ≡ Flat → c.locked ≡ false → c.shared_write ≡ false
+      → MayGrow lic c → MayAdd P v event lic.pin.object (r.shape lic.pin.cell.sid) key x → IsCell c → c.owner ≡ lic.pin.object.pass → c.kind ≡ Flat → c.locked ≡ false → c.shared_write ≡ false
       → RolesGrow P (stored w) v.number r.role role → OwnsStorage (stored w) role v.number own → Widens (r.shape lic.pin.cell.sid) (r.shape c.sid) key y (λ j. (r.shape lic.pin.cell.sid).top ≤ j) → IsBlockOf role false lic.pin.object c.address → frame role false lic.pin.object c.address y ≡ Some a → values w a ≡ x
       → ((s : Spot) → frame r.role false lic.pin.object lic.pin.cell.address s ≢ None → frame role false lic.pin.object c.address s ≢ None)
       → ((q : Key) (s : Spot) (p : Location) → q ≢ key → spot_of (r.shape lic.pin.cell.sid) q ≡ Some s → frame role false lic.pin.object c.address s ≡ Some p → ((p0 : Location) → frame r.role false lic.pin.object lic.pin.cell.address s ≡ Some p0 → values w p ≡ values w p0) × (frame r.role false lic.pin.object lic.pin.cell.address s ≡ None → values w p ≡ 0))
       → Rule P (put w (cell lic.pin.object) (cell_bits c)) (set views id (celling P v event r.log own v.quarantine counts))
-  stores_cell i lic event c role own key y a x counts has there add is owner kind free unshared roles owns wide block place here rooms copied =
+  stores_cell i lic event c role own key y a x counts has there grows add is owner kind free unshared roles owns wide block place here rooms copied =
       let o = lic.pin.object in
       let d = lic.pin.cell in
       let h = r.sights.each id v at l in
@@ -209,7 +219,7 @@ module _ {P : ℕ} {w : Words} {views : List View} (id : ℕ) (v : View) (r : Ru
       let flat : now.segmented ≡ false = k.0.segmented_is ∙ flat_not_segmented d.kind plain.flat in
       let loose : IsLoose false now = record { settled = k.0.settled; segmented_is = flat; sealed = k.0.sealed } in
       let old = subst (λ (b : Bool). HasKeys (values w) r.role b (r.shape d.sid) o d.address (object_of (after P r.log) o)) flat k.1.keys in
-      licensed i lic event c now role own v.quarantine counts has there add.may add.on is owner wide.born (wide.root ∙ st.root) kind free unshared loose roles owns
+      licensed i lic event c now role own v.quarantine v.time.owed counts has there add.unopened add.may add.on is owner wide.born (wide.root ∙ st.root) kind free unshared loose roles owns
       record {
         block = subst (λ (b : Bool). IsBlockOf role b o c.address) (sym flat) block;
         keys = subst (λ (b : Bool). HasKeys (values w) role b (r.shape c.sid) o c.address (object_after_event event (object_of (after P r.log) o))) (sym flat)
@@ -220,6 +230,7 @@ module _ {P : ℕ} {w : Words} {views : List View} (id : ℕ) (v : View) (r : Ru
       (λ j z n e ly m p f keyed same name q off was. ⊎_elim (λ (b : offset_of (r.shape d.sid) name ≡ Some q). inl (wide.keep name q b)) (λ (b : p.epoch < now.stamps q). inr b) was)
       (λ q j mine. Rattle.jo_rule.proofs.Sights.stamps_kept h o now (λ i. refl) q j mine)
       (let n = add.counts (object_of (after P r.log) o) k.1.keys.names in let dp = wide.depth in let hi = wide.high in counts_go r.counted v.number event o d c (name_count key) 0 add.on there (keyed_no_dictionary d.kind (kind_keyed d.kind plain.flat)) n.0 n.1 (omega (arith, dp)) hi)
+      (let u = celling P v event r.log own v.quarantine counts in let same : SameItems v u = numbers_of v u refl refl refl refl refl refl in let dp = wide.depth in let m = many_deeper r.shape d c 0 (kind_keyed d.kind plain.flat) (omega arith) in raised_cell views id v u at l (numbers same) r.histories r.raised refl refl o (Some d) c there (omega arith))
 
   -- the stamps of the pass go on with one more
   pub stamped_more : (o : ObjId) (j x : ℕ) (now : Now) → now.stamps ≡ set_number (r.now o).stamps j x → (q : ObjId) (i : ℕ) → q.pass ≡ v.number → (set_object r.now o now q).stamps i ≡ stamp_in (record { object = o; offset = j; stamp = x } ∷ v.quarantine) q i
@@ -240,13 +251,14 @@ module _ {P : ℕ} {w : Words} {views : List View} (id : ℕ) (v : View) (r : Ru
   same_roles : RolesGrow P (stored w) v.number r.role r.role
   same_roles = record { grows = λ a n. refl; still = λ a z f. inl f; inside = r.contents.inside; elsewhere = λ t k n lt. refl }
 
-  -- A licensed owner takes a name out: its offset is given back, and not stamped yet.
-  pub removes_name : (i : ℕ) (lic : Licence) (event : Event) (c : Cell) (name : NameId) (j : ℕ) (counts : Counts) → get_elem? v.sight.licences i ≡ some lic → r.cell lic.pin.object ≡ Some lic.pin.cell → MayTakeOut P v event lic.pin.object (r.shape lic.pin.cell.sid) name
+  -- A licensed owner takes a name out, by a licence on both sets: its offset is given back, and not stamped yet.
+  pub removes_name : (i : ℕ) (lic : Licence) (event : Event) (c : Cell) (name : NameId) (j : ℕ) (counts : Counts) → get_elem? v.sight.licences i ≡ some lic → lic.writes ≡ true → lic.transitions ≡ true → MayTakeOut P v event lic.pin.object (r.shape lic.pin.cell.sid) name
       → IsCell c → c.owner ≡ lic.pin.object.pass → c.kind ≡ Flat → c.locked ≡ false → c.shared_write ≡ false → c.address ≡ lic.pin.cell.address → (r.shape c.sid).born ≡ true → names_of (r.shape c.sid) ≡ left_of name (names_of (r.shape lic.pin.cell.sid)) → Removed (r.shape lic.pin.cell.sid) (r.shape c.sid) name j → (r.shape c.sid).depth ≡ (r.shape lic.pin.cell.sid).depth + 1
-      → Rule P (put w (cell lic.pin.object) (cell_bits c)) (set views id (celling P v event r.log v.storage (record { object = lic.pin.object; offset = j; stamp = UNSTAMPED } ∷ v.quarantine) counts))
-  removes_name i lic event c name j counts has there take is owner kind free unshared at_same born names out deeper =
+      → Rule P (put w (cell lic.pin.object) (cell_bits c)) (set views id (celling_owing P v event r.log v.storage (record { object = lic.pin.object; offset = j; stamp = UNSTAMPED } ∷ v.quarantine) (v.time.owed + 1) counts))
+  removes_name i lic event c name j counts has writes transitions take is owner kind free unshared at_same born names out deeper =
       let o = lic.pin.object in
       let d = lic.pin.cell in
+      let there : r.cell o ≡ Some d = still r id v at l i lic has writes in
       let h = r.sights.each id v at l in
       let plain = (h.licensed i lic has).plain in
       let st = standing r.contents o d there in
@@ -265,7 +277,7 @@ module _ {P : ℕ} {w : Words} {views : List View} (id : ℕ) (v : View) (r : Ru
       (λ (t : (m : ℕ) × (q ≡ Index m) × (s ≡ element m)). ((λ e. let no : Index t.0 ≡ Name name = sym t.1 ∙ e in cc), ap (spot_of (r.shape d.sid)) t.1 ∙ ap (λ (x : Spot). Some x) (sym t.2))) (spot_cases (r.shape c.sid) q s f) in
       let here : now.stamps j ≡ UNSTAMPED = number_here (r.now o).stamps j UNSTAMPED in
       let away : (n : ℕ) → n ≢ j → now.stamps n ≡ (r.now o).stamps n = λ n e. number_else (r.now o).stamps j n UNSTAMPED e in
-      licensed i lic event c now r.role v.storage (record { object = o; offset = j; stamp = UNSTAMPED } ∷ v.quarantine) counts has there take.may take.on is owner born (out.root ∙ st.root) kind free unshared loose same_roles (r.owned.storage id v at l)
+      licensed i lic event c now r.role v.storage (record { object = o; offset = j; stamp = UNSTAMPED } ∷ v.quarantine) (v.time.owed + 1) counts has there take.unopened take.may take.on is owner born (out.root ∙ st.root) kind free unshared loose same_roles (r.owned.storage id v at l)
       record {
         block = subst (λ (b : ℕ). IsBlockOf r.role (r.now o).segmented o b) (sym at_same) k.1.block;
         keys = record {
@@ -292,15 +304,17 @@ module _ {P : ℕ} {w : Words} {views : List View} (id : ℕ) (v : View) (r : Ru
       (λ (a : p.epoch < (r.now o).stamps q). (let same' = away q g in inr (omega arith))) was) (cases_eq q j))
       (stamped_more o j UNSTAMPED now refl)
       (let n = take.counts z k.1.keys.names in let t = out.top in counts_go r.counted v.number event o d c 0 1 take.on there (keyed_no_dictionary d.kind (kind_keyed d.kind plain.flat)) n.0 n.1 (omega (arith, deeper)) (omega (arith, t)))
+      (let u = celling_owing P v event r.log v.storage (record { object = o; offset = j; stamp = UNSTAMPED } ∷ v.quarantine) (v.time.owed + 1) counts in let same : SameItems v u = numbers_of v u refl refl refl refl refl refl in let m = many_deeper r.shape d c 1 (kind_keyed d.kind plain.flat) (omega (arith, deeper)) in raised_reason views id v u at l (numbers same) r.histories r.raised (may_flat r.allowed id v at l o d there (keyed_no_dictionary d.kind (kind_keyed d.kind plain.flat))) refl refl refl o d c there (object_within id v r at l o d there) m)
 
   -- A licensed owner adds a name at an offset that was given back, which no pin has any more.
-  pub reuses_offset : (i : ℕ) (lic : Licence) (event : Event) (c : Cell) (name : NameId) (j : ℕ) (a : Location) (x : ℕ) (counts : Counts) → get_elem? v.sight.licences i ≡ some lic → r.cell lic.pin.object ≡ Some lic.pin.cell → MayAdd P v event lic.pin.object (r.shape lic.pin.cell.sid) (Name name) x
+  pub reuses_offset : (i : ℕ) (lic : Licence) (event : Event) (c : Cell) (name : NameId) (j : ℕ) (a : Location) (x : ℕ) (counts : Counts) → get_elem? v.sight.licences i ≡ some lic → lic.writes ≡ true → lic.transitions ≡ true → MayAdd P v event lic.pin.object (r.shape lic.pin.cell.sid) (Name name) x
       → IsCell c → c.owner ≡ lic.pin.object.pass → c.kind ≡ Flat → c.locked ≡ false → c.shared_write ≡ false → c.address ≡ lic.pin.cell.address → Widens (r.shape lic.pin.cell.sid) (r.shape c.sid) (Name name) (offset j) (λ n. n ≡ j)
       → frame r.role false lic.pin.object lic.pin.cell.address (offset j) ≡ Some a → values w a ≡ x → IsHidden r lic.pin.object j
       → Rule P (put w (cell lic.pin.object) (cell_bits c)) (set views id (celling P v event r.log v.storage (record { object = lic.pin.object; offset = j; stamp = 0 } ∷ v.quarantine) counts))
-  reuses_offset i lic event c name j a x counts has there add is owner kind free unshared at_same wide place word hidden =
+  reuses_offset i lic event c name j a x counts has writes transitions add is owner kind free unshared at_same wide place word hidden =
       let o = lic.pin.object in
       let d = lic.pin.cell in
+      let there : r.cell o ≡ Some d = still r id v at l i lic has writes in
       let h = r.sights.each id v at l in
       let plain = (h.licensed i lic has).plain in
       let st = standing r.contents o d there in
@@ -312,7 +326,7 @@ module _ {P : ℕ} {w : Words} {views : List View} (id : ℕ) (v : View) (r : Ru
       let away : (n : ℕ) → n ≢ j → now.stamps n ≡ (r.now o).stamps n = λ n e. number_else (r.now o).stamps j n 0 e in
       let frames : (y : Spot) → frame r.role false o c.address y ≡ frame r.role false o d.address y = λ y. ap (λ (b : ℕ). frame r.role false o b y) at_same in
       let old = subst (λ (b : Bool). HasKeys (values w) r.role b (r.shape d.sid) o d.address (object_of (after P r.log) o)) flat k.1.keys in
-      licensed i lic event c now r.role v.storage (record { object = o; offset = j; stamp = 0 } ∷ v.quarantine) counts has there add.may add.on is owner wide.born (wide.root ∙ st.root) kind free unshared loose same_roles (r.owned.storage id v at l)
+      licensed i lic event c now r.role v.storage (record { object = o; offset = j; stamp = 0 } ∷ v.quarantine) v.time.owed counts has there add.unopened add.may add.on is owner wide.born (wide.root ∙ st.root) kind free unshared loose same_roles (r.owned.storage id v at l)
       record {
         block = subst (λ (b : ℕ). IsBlockOf r.role (r.now o).segmented o b) (sym at_same) k.1.block;
         keys = subst (λ (b : Bool). HasKeys (values w) r.role b (r.shape c.sid) o c.address (object_after_event event (object_of (after P r.log) o))) (sym flat)
@@ -331,3 +345,4 @@ module _ {P : ℕ} {w : Words} {views : List View} (id : ℕ) (v : View) (r : Ru
       (λ (g : q ≢ j). (let same' = away q g in inr (omega arith))) (cases_eq q j)) was)
       (stamped_more o j 0 now refl)
       (let n = add.counts (object_of (after P r.log) o) k.1.keys.names in let dp = wide.depth in let hi = wide.high in counts_go r.counted v.number event o d c 1 0 add.on there (keyed_no_dictionary d.kind (kind_keyed d.kind plain.flat)) n.0 n.1 (omega (arith, dp)) hi)
+      (let u = celling P v event r.log v.storage (record { object = o; offset = j; stamp = 0 } ∷ v.quarantine) counts in let same : SameItems v u = numbers_of v u refl refl refl refl refl refl in let dp = wide.depth in let m = many_deeper r.shape d c 0 (kind_keyed d.kind plain.flat) (omega arith) in raised_cell views id v u at l (numbers same) r.histories r.raised refl refl o (Some d) c there (omega arith))

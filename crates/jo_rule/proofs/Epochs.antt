@@ -15,6 +15,10 @@ use Rattle.jo_rule.specs.Rule.{Rule}
 use Rattle.jo_rule.specs.Steps.{no_sight}
 use Rattle.jo_rule.specs.Sights.{watched, IsSighted, ViewIsSighted}
 use Rattle.jo_rule.specs.Timing.{IsTimed, ViewIsTimed}
+use Rattle.jo_rule.specs.Views.{Past, Births}
+use Rattle.jo_rule.proofs.Concluded.{alike_same, at_least_same, concluded_same}
+use Rattle.jo_rule.proofs.Raised.{raised_same, raised_in, raised_out}
+use Rattle.jo_rule.specs.Raised.{Raised}
 use Rattle.jo_rule.proofs.Lists.{live_set, no_each, none_there}
 use Rattle.jo_rule.proofs.Sets.{number_here, number_else}
 use Rattle.jo_rule.proofs.Histories.{SameItems, begins_itself, same_placements, same_histories, numbers}
@@ -64,9 +68,9 @@ pin_after {E} {acks} {number} {t} {sight} e few h found k p f = ⊎_elim
 -- ---- the own acknowledgement
 
 -- what each store of the own acknowledgement owes
-acks_at : {P : ℕ} {w : Words} {views : List View} (id : ℕ) (v u : View) (r : Rule P w views) → get_elem? views id ≡ some v → v.live ≡ true → u.live ≡ true → SameItems v u → v.past ≡ u.past → v.storage ≡ u.storage → v.births ≡ u.births → v.lock ≡ u.lock → (x : ℕ)
+acks_at : {P : ℕ} {w : Words} {views : List View} (id : ℕ) (v u : View) (r : Rule P w views) → get_elem? views id ≡ some v → v.live ≡ true → u.live ≡ true → SameItems v u → v.past ≡ u.past → v.storage ≡ u.storage → v.births ≡ u.births → v.lock ≡ u.lock → Raised P r.made (w epoch) r.cell r.shape (watched w) (set views id u) → (x : ℕ)
     → ViewIsSighted P (w epoch) (values w) r.cell r.shape r.role r.now (watched w) r.log r.sights.floor r.sights.sealed r.sights.firer id u → IsTimed (w epoch) (acknowledgements (put w (acknowledgement v.number) x)) u.number u.time u.sight → Rule P (put w (acknowledgement v.number) x) (set views id u)
-acks_at {P} {w} {views} id v u r at l lu same past store births lock x sight times =
+acks_at {P} {w} {views} id v u r at l lu same past store births lock raised x sight times =
     let acks' = acknowledgements (put w (acknowledgement v.number) x) in
     let below = (r.histories.seated id v at l).own.1 in
     let away : (q : ℕ) → q ≢ v.number → acks' q ≡ acknowledgements w q = λ q n. number_else (acknowledgements w) v.number q x n in record {
@@ -85,7 +89,7 @@ acks_at {P} {w} {views} id v u r at l lu same past store births lock x sight tim
       shaped = r.shaped;
       contents = r.contents;
       owned = same_owned views id u v at l same.number store (ap (λ (b : Rattle.jo_rule.specs.Views.Births). b.objects) births) r.owned;
-      structures = same_structures views id v u at l same.number (ap (λ (b : Rattle.jo_rule.specs.Views.Births). b.nodes) births) r.structures;
+      structures = same_structures views id v u at l same.number (ap Rattle.jo_rule.specs.Owned.structures_in births) r.structures;
       locks = same_locks views id v u at l lu lock (λ j y e ly g f n k lt. refl) r.locks;
       unborn = r.unborn;
       unmade = record {
@@ -113,6 +117,8 @@ acks_at {P} {w} {views} id v u r at l lu same past store births lock x sight tim
       };
       lasting = lasting_same views id v u at l same.lasting r.lasting;
       counted = r.counted;
+      concluded = concluded_same views id v u at l (numbers same) r.concluded (alike_same lock) (ap (λ (b : Births). b.nodes) births) (at_least_same v.past.calls u.past.calls (ap (λ (x : Past). x.calls) past));
+      raised = raised;
     }
 
 module _ {P : ℕ} {w : Words} {views : List View} (id : ℕ) (v : View) (r : Rule P w views) (at : get_elem? views id ≡ some v) (l : v.live ≡ true) where
@@ -125,7 +131,7 @@ module _ {P : ℕ} {w : Words} {views : List View} (id : ℕ) (v : View) (r : Ru
       let u = polling v (w epoch) more counts in
       let h = r.sights.each id v at l in
       let t = r.timing.timed id v at l in
-      looks id v u r at l (numbers_of v u refl refl refl refl refl refl) (record { calls = refl; more = begins_itself v.past.seen; seen = r.histories.seen id v at l }) refl refl refl refl (sighted_dropped h v.quarantine h.stamped)
+      looks id v u r at l (numbers_of v u refl refl refl refl refl refl) (record { calls = refl; more = begins_itself v.past.seen; seen = r.histories.seen id v at l }) refl refl refl refl refl refl (sighted_dropped h v.quarantine h.stamped)
       record {
         out = λ o. ((t.out o).0, refl, refl);
         inside = t.inside;
@@ -141,7 +147,7 @@ module _ {P : ℕ} {w : Words} {views : List View} (id : ℕ) (v : View) (r : Ru
       let u = acknowledging v n more counts in
       let h = r.sights.each id v at l in
       let t = r.timing.timed id v at l in
-      acks_at id v u r at l l (numbers_of v u refl refl refl refl refl refl) refl refl refl refl n (sighted_dropped h v.quarantine h.stamped)
+      acks_at id v u r at l l (numbers_of v u refl refl refl refl refl refl) refl refl refl refl (raised_same views id v u at l (numbers (numbers_of v u refl refl refl refl refl refl)) r.histories r.raised refl refl) n (sighted_dropped h v.quarantine h.stamped)
       record {
         out = λ o. absurd (both_ways v.time.out inside o);
         inside = λ o. (let here = number_here (acknowledgements w) v.number n in subst (λ (z : ℕ). z ≤ n) (sym here) (omega arith));
@@ -157,7 +163,7 @@ module _ {P : ℕ} {w : Words} {views : List View} (id : ℕ) (v : View) (r : Ru
       let u = going_out v counts in
       let h = r.sights.each id v at l in
       let t = r.timing.timed id v at l in
-      acks_at id v u r at l l (numbers_of v u refl refl refl refl refl refl) refl refl refl refl OUT (sighted_dropped h v.quarantine h.stamped)
+      acks_at id v u r at l l (numbers_of v u refl refl refl refl refl refl) refl refl refl refl (raised_out views id v u at l (numbers (numbers_of v u refl refl refl refl refl refl)) r.histories r.raised refl refl refl refl refl) OUT (sighted_dropped h v.quarantine h.stamped)
       record {
         out = λ o. (number_here (acknowledgements w) v.number OUT, refl, refl);
         inside = λ o. (let no : true ≡ false = o in absurd cc);
@@ -168,12 +174,12 @@ module _ {P : ℕ} {w : Words} {views : List View} (id : ℕ) (v : View) (r : Ru
       }
 
   -- It comes in with the epoch that it loaded.
-  pub stores_in : (n : ℕ) (counts : Counts) → v.time.loaded ≡ Some n → Rule P (put w (acknowledgement v.number) n) (set views id (coming_in v n counts))
-  stores_in n counts loaded =
+  pub stores_in : (n : ℕ) (counts : Counts) → v.flat ≡ true → v.time.loaded ≡ Some n → Rule P (put w (acknowledgement v.number) n) (set views id (coming_in v n counts))
+  stores_in n counts flat loaded =
       let u = coming_in v n counts in
       let h = r.sights.each id v at l in
       let t = r.timing.timed id v at l in
-      acks_at id v u r at l l (numbers_of v u refl refl refl refl refl refl) refl refl refl refl n (sighted_dropped h v.quarantine h.stamped)
+      acks_at id v u r at l l (numbers_of v u refl refl refl refl refl refl) refl refl refl refl (raised_in views id v u at l (numbers (numbers_of v u refl refl refl refl refl refl)) r.histories r.raised flat refl refl refl) n (sighted_dropped h v.quarantine h.stamped)
       record {
         out = λ o. (let no : false ≡ true = o in absurd cc);
         inside = λ o. subst (λ (z : ℕ). z ≤ n) (sym (number_here (acknowledgements w) v.number n)) (omega arith);
@@ -256,4 +262,6 @@ module _ {P : ℕ} {w : Words} {views : List View} (id : ℕ) (v : View) (r : Ru
         timing = timing_set views id u r.timing record { out = t.out; inside = t.inside; polled = t.polled; pins = t.pins; largest = t.largest; loaded = t.loaded };
         lasting = lasting_same views id v u at l refl r.lasting;
         counted = r.counted;
+        concluded = concluded_same views id v u at l (numbers same) r.concluded (alike_same refl) refl (at_least_same v.past.calls v.past.calls refl);
+        raised = raised_same views id v u at l (numbers same) r.histories r.raised refl refl;
       }

@@ -1,5 +1,5 @@
 -- The steps that fire a set: the exchange with its mark, the raise of the epoch for it, and the store once no licence relies on it.
-use Rattle.std.proofs.Common.{◌≡◌, ◌≢◌, ◌⊎◌, ◌<◌, ◌≤◌, ℕ, Bool, true, false, eqb, List, [], ◌∷◌, ◌++◌, length, set, refl, sym, ap, ◌∙◌, subst, inl, inr, ⊎_elim, arith, Option, Some, None}
+use Rattle.std.proofs.Common.{◌≡◌, ◌≢◌, ◌+◌, ◌⊎◌, ◌<◌, ◌≤◌, ℕ, Bool, true, false, eqb, List, [], ◌∷◌, ◌++◌, length, set, refl, sym, ap, ◌∙◌, subst, inl, inr, ⊎_elim, arith, Option, Some, None}
 use mathlib.Core.Option.{some}
 use lib.ListN.{get_elem?}
 use Rattle.std.specs.Prelude.{not, ◌==◌, ◌&&◌, if◌then◌else◌}
@@ -31,6 +31,11 @@ use Rattle.jo_rule.specs.Steps.{no_sight}
 use Rattle.jo_rule.specs.Sights.{watched, name_of_set, is_same_kind, set_watched, Sees, IsFollowed, HasStayed, Owning, IsRelied, Licensed, IsFiring, IsKnown, told, IsSighted, ViewIsSighted, Sights}
 use Rattle.jo_rule.specs.Marked.{WasFired, BornSo, Marked}
 use Rattle.jo_rule.specs.Timing.{ViewIsTimed}
+use Rattle.jo_rule.specs.Concluded.{NotOpened, Concluded}
+use Rattle.jo_rule.proofs.Concluded.{alike_same, at_least_same, concluded_same, concluded_fired}
+use Rattle.jo_rule.specs.Raised.{set_reasons, Raised}
+use Rattle.jo_rule.proofs.Timing.{timed_owing}
+use Rattle.jo_rule.proofs.Raised.{raised_sets, raised_set_reason}
 use Rattle.jo_rule.proofs.Lists.{live_set, no_each}
 use Rattle.jo_rule.proofs.Shaped.{cases_structure}
 use Rattle.jo_rule.proofs.Histories.{SameItems, mark_placements, mark_histories, same_placements, same_histories, numbers}
@@ -114,8 +119,8 @@ sets_path w s which x = λ i t kind. sym (watched_put w s which x t kind) i
 
 sets_at : {P : ℕ} {w : Words} {views : List View} (id : ℕ) (v u : View) (r : Rule P w views) → get_elem? views id ≡ some v → v.live ≡ true → u.live ≡ true → SameItems v u → v.storage ≡ u.storage → v.births ≡ u.births → v.lock ≡ u.lock → (s : Sid) (which : SetKind) (x : ℕ) (log : Log Mark) → nodes w s ≢ 0 → after P log ≡ after P r.log
     → Rattle.jo_rule.specs.Histories.Placements P (set views id u) → Rattle.jo_rule.specs.Histories.Histories P log r.made r.home (set views id u) → Sights P (w epoch) (values w) r.cell r.shape r.role r.now (set_watched (watched w) s which x) log (set views id u)
-    → BornSo log r.cell r.so → Marked log r.cell r.shape (set_watched (watched w) s which x) → Counted P log r.cell r.shape → ViewIsTimed (w epoch) (acknowledgements w) id u → Rule P (put w (name_of_set s which) x) (set views id u)
-sets_at {P} {w} {views} id v u r at l lu same store births lock s Transition x log born heap placements histories sights came marked counted times = record {
+    → BornSo log r.cell r.so → Marked log r.cell r.shape (set_watched (watched w) s which x) → Counted P log r.cell r.shape → Concluded P log (set views id u) → Raised P r.made (w epoch) r.cell r.shape (set_watched (watched w) s which x) (set views id u) → ViewIsTimed (w epoch) (acknowledgements w) id u → Rule P (put w (name_of_set s which) x) (set views id u)
+sets_at {P} {w} {views} id v u r at l lu same store births lock s Transition x log born heap placements histories sights came marked counted concluded raised times = record {
   log = log;
   made = r.made;
   home = r.home;
@@ -131,7 +136,7 @@ sets_at {P} {w} {views} id v u r at l lu same store births lock s Transition x l
   shaped = r.shaped;
   contents = subst (Contents P (values w) r.cell r.shape r.role r.now) (sym heap) r.contents;
   owned = subst (λ (h : Heap). Owned (stored w) r.role h (set views id u)) (sym heap) (same_owned views id u v at l same.number store (ap (λ (b : Rattle.jo_rule.specs.Views.Births). b.objects) births) r.owned);
-  structures = same_structures views id v u at l same.number (ap (λ (b : Rattle.jo_rule.specs.Views.Births). b.nodes) births) r.structures;
+  structures = same_structures views id v u at l same.number (ap Rattle.jo_rule.specs.Owned.structures_in births) r.structures;
   locks = subst (λ (h : Heap). Locks (stored w) r.cell r.now h (set views id u)) (sym heap) (same_locks views id v u at l lu lock (λ j y e ly g f n k lt. refl) r.locks);
   unborn = unborn_put w r.cell s Transition x born r.unborn;
   unmade = subst (λ (h : Heap). Unmade P r.made (acknowledgements w) (nodes w) (stored w) r.role h) (sym heap) r.unmade;
@@ -142,8 +147,10 @@ sets_at {P} {w} {views} id v u r at l lu same store births lock s Transition x l
   timing = timing_set views id u r.timing times;
   lasting = lasting_same views id v u at l same.lasting r.lasting;
   counted = counted;
+  concluded = concluded;
+  raised = subst (λ (f : Sid → SetKind → ℕ). Raised P r.made (w epoch) r.cell r.shape f (set views id u)) (sets_path w s Transition x) raised;
 }
-sets_at {P} {w} {views} id v u r at l lu same store births lock s Write x log born heap placements histories sights came marked counted times = record {
+sets_at {P} {w} {views} id v u r at l lu same store births lock s Write x log born heap placements histories sights came marked counted concluded raised times = record {
   log = log;
   made = r.made;
   home = r.home;
@@ -159,7 +166,7 @@ sets_at {P} {w} {views} id v u r at l lu same store births lock s Write x log bo
   shaped = r.shaped;
   contents = subst (Contents P (values w) r.cell r.shape r.role r.now) (sym heap) r.contents;
   owned = subst (λ (h : Heap). Owned (stored w) r.role h (set views id u)) (sym heap) (same_owned views id u v at l same.number store (ap (λ (b : Rattle.jo_rule.specs.Views.Births). b.objects) births) r.owned);
-  structures = same_structures views id v u at l same.number (ap (λ (b : Rattle.jo_rule.specs.Views.Births). b.nodes) births) r.structures;
+  structures = same_structures views id v u at l same.number (ap Rattle.jo_rule.specs.Owned.structures_in births) r.structures;
   locks = subst (λ (h : Heap). Locks (stored w) r.cell r.now h (set views id u)) (sym heap) (same_locks views id v u at l lu lock (λ j y e ly g f n k lt. refl) r.locks);
   unborn = unborn_put w r.cell s Write x born r.unborn;
   unmade = subst (λ (h : Heap). Unmade P r.made (acknowledgements w) (nodes w) (stored w) r.role h) (sym heap) r.unmade;
@@ -170,14 +177,16 @@ sets_at {P} {w} {views} id v u r at l lu same store births lock s Write x log bo
   timing = timing_set views id u r.timing times;
   lasting = lasting_same views id v u at l same.lasting r.lasting;
   counted = counted;
+  concluded = concluded;
+  raised = subst (λ (f : Sid → SetKind → ℕ). Raised P r.made (w epoch) r.cell r.shape f (set views id u)) (sets_path w s Write x) raised;
 }
 
 abbrev pub firing_of : Sid → SetKind → ℕ → Firing
 firing_of s which e = record { structure = s; which = which; since = e }
 
--- the view after the exchange that finds a set valid: it owes the firing
+-- the view after the exchange that finds a set valid: it owes the firing and a raise
 abbrev pub firing_set : View → Log Mark → Sid → SetKind → Counts → View
-firing_set v log s which counts = record v { past = record v.past { seen = log }; sets = record v.sets { firing = Some (firing_of s which 0) }; counts = counts }
+firing_set v log s which counts = record v { past = record v.past { seen = log }; sets = record v.sets { firing = Some (firing_of s which 0) }; time = record v.time { owed = v.time.owed + 1 }; counts = counts }
 
 module _ {P : ℕ} {w : Words} {views : List View} (id : ℕ) (v : View) (r : Rule P w views) (at : get_elem? views id ≡ some v) (l : v.live ≡ true) where
   -- a set whose structure is born
@@ -185,9 +194,9 @@ module _ {P : ℕ} {w : Words} {views : List View} (id : ℕ) (v : View) (r : Ru
   born_node s born e = both_ways (r.shape s).born (ap (λ (z : Shape). z.born) (r.shaped.unborn s (Rattle.jo_rule.proofs.Shaped.unborn_of_word r.shaped s e))) born
 
   -- The exchange that finds a set valid places its mark: by a pass that may disturb the object, whose structure comes from the same root.
-  pub fires_set : (o : ObjId) (s : Sid) (which : SetKind) (counts : Counts) → watched w s which ≡ VALID → v.sets.firing ≡ None → (r.shape s).born ≡ true → (r.shape s).root ≡ o.pass → IsCauseToFire r.log v.number which o
+  pub fires_set : (o : ObjId) (s : Sid) (which : SetKind) (counts : Counts) → watched w s which ≡ VALID → v.sets.firing ≡ None → (r.shape s).born ≡ true → (r.shape s).root ≡ o.pass → IsCauseToFire r.log v.number which o → NotOpened v.lock → v.flat ≡ true
       → Rule P (put w (name_of_set s which) FIRING) (set views id (firing_set v (r.log ++ mark v.number (fired s which o) ∷ []) s which counts))
-  fires_set o s which counts valid free born root cause =
+  fires_set o s which counts valid free born root cause closed may =
       let e : LogEntry Mark = mark v.number (fired s which o) in
       let log' = r.log ++ e ∷ [] in
       let u = firing_set v log' s which counts in
@@ -244,7 +253,11 @@ module _ {P : ℕ} {w : Words} {views : List View} (id : ℕ) (v : View) (r : Ru
           | inr new ↦ rooted_last v.number by s t which kind o q new.1 born root
         ];
       }
-      (counted_log r.counted (λ q. mark_counts P v.number r.log v.number (fired s which o) q)) (r.timing.timed id v at l)
+      (counted_log r.counted (λ q. mark_counts P v.number r.log v.number (fired s which o) q))
+      (concluded_fired views id v u at l (numbers same) r.concluded r.histories s which o closed refl refl refl)
+      (raised_set_reason views id v u at l (numbers same) r.histories r.raised may refl free refl refl sets' (each_watched (watched w) s which FIRING (λ t kind x. set_reasons (watched w t kind) ≤ set_reasons x) (let none_ = ap set_reasons valid in omega (arith, none_)) (λ t kind n. omega arith)) s which (firing_of s which 0) refl refl refl
+      (λ t kind e. ⊎_elim (λ (x : (t ≡ s) × (kind ≡ which)). inr x) (λ (n : (t ≡ s) → (kind ≡ which) → ⊥). inl (sym (set_else (watched w) s which FIRING t kind n) ∙ e)) (set_cases s which t kind)) born
+      (let none_ = ap set_reasons valid in let one = ap set_reasons (set_here (watched w) s which FIRING) in omega (arith, none_, one))) (timed_owing (v.time.owed + 1) (r.timing.timed id v at l))
     where
       foreign_later : (log : Log Mark) (e : LogEntry Mark) (p : ℕ) → HasForeignMark p log → HasForeignMark p (log ++ e ∷ [])
       foreign_later log e p h = Rattle.jo_rule.proofs.Marked.foreign_more log e p h
@@ -350,4 +363,7 @@ module _ {P : ℕ} {w : Words} {views : List View} (id : ℕ) (v : View) (r : Ru
         valid = each_watched (watched w) s which FIRED (λ t kind x. x ≡ VALID → WasFired r.log t kind → ⊥) (λ f g. omega (arith, f)) (λ t kind n f g. r.marked.valid t kind f g);
         rooted = r.marked.rooted;
       }
-      r.counted (timed_dropped (r.timing.timed id v at l))
+      r.counted (concluded_same views id v u at l (numbers same) r.concluded (alike_same refl) refl (at_least_same v.past.calls v.past.calls refl))
+      (raised_sets views id v u at l (numbers same) r.histories r.raised refl (firing_of s which e) owed refl refl sets' (each_watched (watched w) s which FIRED (λ t kind x. set_reasons (watched w t kind) ≤ set_reasons x) (let firing = ap set_reasons fi.state in omega (arith, firing)) (λ t kind n. omega arith))
+      (λ t kind b. ⊎_elim (λ (x : (t ≡ s) × (kind ≡ which)). absurd (let one : sets' t kind ≡ FIRED = (λ i. sets' (x.0 i) (x.1 i)) ∙ set_here (watched w) s which FIRED in omega (arith, one, b)))
+      (λ (n : (t ≡ s) → (kind ≡ which) → ⊥). (sym (set_else (watched w) s which FIRED t kind n) ∙ b, λ a c. n (sym a) (sym c))) (set_cases s which t kind))) (timed_dropped (r.timing.timed id v at l))

@@ -1,5 +1,5 @@
 -- Words that never change: they are loaded and known from then on, and tell what the code wants of a structure or of a block.
-use Rattle.std.proofs.Common.{◌≡◌, ◌≢◌, ◌+◌, ◌-◌, ◌/◌, ◌<◌, ℕ, Bool, true, List, ◌∷◌, set, refl, sym, ap, ◌∙◌, subst, inl, inr, ⊎_elim, arith, Some, None}
+use Rattle.std.proofs.Common.{◌≡◌, ◌≢◌, ◌⊎◌, ◌+◌, ◌-◌, ◌/◌, ◌<◌, ℕ, Bool, true, List, ◌∷◌, set, refl, sym, ap, ◌∙◌, subst, inl, inr, ⊎_elim, arith, Some, None}
 use mathlib.Core.Option.{some}
 use lib.ListN.{get_elem?}
 use Rattle.jo_value.specs.declared.value.NameId.{NameId}
@@ -10,19 +10,21 @@ use Rattle.jo_value.specs.declared.words.node.Node.{Node}
 use Rattle.jo_value.specs.Words.{IsNode, node_bits}
 use Rattle.jo_value.proofs.Distinct.{node_words}
 use Rattle.jo_rule.specs.declared.counts.Counts.{Counts}
-use Rattle.jo_rule.specs.Names.{WordName, node, storage}
-use Rattle.jo_rule.specs.Areas.{Words, stored}
-use Rattle.jo_rule.specs.Shapes.{Shape, shape_after, offset_of, word_of_node, IsChildOf, IsMade, IsRoot}
+use Rattle.jo_rule.specs.Names.{WordName, node, first_child, sibling, storage}
+use Rattle.jo_rule.specs.Areas.{Words, siblings, stored}
+use Rattle.jo_rule.specs.Shapes.{Shape, shape_after, offset_of, word_of_node, IsChildOf, LinksTo, IsLink, IsMade, IsRoot}
 use Rattle.jo_rule.specs.Spots.{Spot}
 use Rattle.jo_rule.specs.Roles.{fixed, words_fixed, word_fixed, names_room, elements_room, place_by, frame}
 use Rattle.jo_rule.specs.Contents.{is_keyed}
 use Rattle.jo_rule.specs.Views.{View, Pin}
 use Rattle.jo_rule.specs.Rule.{Rule}
 use Rattle.jo_rule.specs.Sights.{told}
-use Rattle.jo_rule.specs.Lasting.{IsNodeWord, IsFixedWord, IsLasting, KnowsLasting}
+use Rattle.jo_rule.specs.Lasting.{IsNodeWord, IsFixedWord, IsLinkWord, IsLasting, KnowsLasting}
+use Rattle.jo_rule.proofs.Concluded.{alike_same, at_least_same, concluded_same}
+use Rattle.jo_rule.proofs.Raised.{raised_same}
 use Rattle.jo_rule.proofs.Lists.{live_same}
 use Rattle.jo_rule.proofs.Shapes.{extends, removed_of, name_here}
-use Rattle.jo_rule.proofs.Shaped.{node_of_born}
+use Rattle.jo_rule.proofs.Shaped.{node_of_born, made_below}
 use Rattle.jo_rule.proofs.Layouts.{place_same}
 use Rattle.jo_rule.proofs.Histories.{SameNumbers, same_placements, same_histories}
 use Rattle.jo_rule.proofs.Owned.{same_owned, same_structures}
@@ -38,7 +40,7 @@ lasting v name word counts = record v { lasting = record { at = name; word = wor
 
 module _ {P : ℕ} {w : Words} {views : List View} (id : ℕ) (v : View) (r : Rule P w views) (at : get_elem? views id ≡ some v) (l : v.live ≡ true) where
   -- a word that never changes is known
-  pub keeps_lasting : (name : WordName) (word : ℕ) (counts : Counts) → IsLasting r.node r.role name word → Rule P w (set views id (lasting v name word counts))
+  pub keeps_lasting : (name : WordName) (word : ℕ) (counts : Counts) → IsLasting r.node (siblings w) r.role name word → Rule P w (set views id (lasting v name word counts))
   keeps_lasting name word counts is =
       let u = lasting v name word counts in
       let same : SameNumbers v u = record { live = refl; number = refl; made = refl; kept = refl } in record {
@@ -67,11 +69,13 @@ module _ {P : ℕ} {w : Words} {views : List View} (id : ℕ) (v : View) (r : Ru
         allowed = allowed_same views id v u at l refl r.allowed;
         timing = timing_set views id u r.timing (r.timing.timed id v at l);
         lasting = record {
-          known = live_same (KnowsLasting r.node r.role) views id u r.lasting.known (λ q x e. ⊎_elim
-              (λ (t : (q ≡ name) × (word ≡ x)). subst (λ (z : WordName × ℕ). IsLasting r.node r.role z.0 z.1) (λ i. (sym t.0 i, t.1 i)) is)
+          known = live_same (KnowsLasting r.node (siblings w) r.role) views id u r.lasting.known (λ q x e. ⊎_elim
+              (λ (t : (q ≡ name) × (word ≡ x)). subst (λ (z : WordName × ℕ). IsLasting r.node (siblings w) r.role z.0 z.1) (λ i. (sym t.0 i, t.1 i)) is)
               (λ (t : told v.lasting q ≡ Some x). r.lasting.known id v at l q x t) (told_cases v.lasting q name word x e));
         };
         counted = r.counted;
+        concluded = concluded_same views id v u at l same r.concluded (alike_same refl) refl (at_least_same v.past.calls u.past.calls refl);
+        raised = raised_same views id v u at l same r.histories r.raised refl refl;
       }
 
   -- the node of a structure that is born
@@ -82,7 +86,7 @@ module _ {P : ℕ} {w : Words} {views : List View} (id : ℕ) (v : View) (r : Ru
 
   -- a word of storage that a role fixes
   pub loads_fixed : (a word : ℕ) (counts : Counts) → r.role a ≡ fixed word → (w (storage a) ≡ word) × Rule P w (set views id (lasting v (storage a) word counts))
-  loads_fixed a word counts is = (r.contents.still a word is, keeps_lasting (storage a) word counts (inr (record { at = a; name_is = refl; is = is })))
+  loads_fixed a word counts is = (r.contents.still a word is, keeps_lasting (storage a) word counts (inr (inl (record { at = a; name_is = refl; is = is }))))
 
   -- the header of the block of a pin
   pub loads_header : (i : ℕ) (p : Pin) (counts : Counts) → get_elem? v.sight.pins i ≡ some p → is_keyed p.cell.kind ≡ true → (head : ℕ) × (w (storage p.cell.address) ≡ head) × Rule P w (set views id (lasting v (storage p.cell.address) head counts))
@@ -103,12 +107,41 @@ module _ {P : ℕ} {w : Words} {views : List View} (id : ℕ) (v : View) (r : Ru
       let same : s ≡ t.structure = cc in
       let one : n ≡ t.found = node_words n t.found formed (node_formed t.structure t.found t.is) t.word_is in
       ap r.node same ∙ (t.is ∙ ap (λ (x : Node). Some x) (sym one)))
-      (λ (t : IsFixedWord r.role (node s) (node_bits n)). (let no : node s ≡ storage t.at = t.name_is in absurd cc)) (r.lasting.known id v at l (node s) (node_bits n) e)
+      (λ (f : IsFixedWord r.role (node s) (node_bits n) ⊎ IsLinkWord r.node (siblings w) (node s) (node_bits n)). ⊎_elim
+      (λ (t : IsFixedWord r.role (node s) (node_bits n)). (let no : node s ≡ storage t.at = t.name_is in absurd cc))
+      (λ (t : IsLinkWord r.node (siblings w) (node s) (node_bits n)). (let no : node s ≡ sibling t.structure = t.name_is in absurd cc)) f) (r.lasting.known id v at l (node s) (node_bits n) e)
 
   pub known_fixed : (a word : ℕ) → told v.lasting (storage a) ≡ Some word → r.role a ≡ fixed word
   known_fixed a word e = ⊎_elim
       (λ (t : IsNodeWord r.node (storage a) word). (let no : storage a ≡ node t.structure = t.name_is in absurd cc))
-      (λ (t : IsFixedWord r.role (storage a) word). let name : storage a ≡ storage t.at = t.name_is in let same : a ≡ t.at = cc in ap r.role same ∙ t.is) (r.lasting.known id v at l (storage a) word e)
+      (λ (f : IsFixedWord r.role (storage a) word ⊎ IsLinkWord r.node (siblings w) (storage a) word). ⊎_elim
+      (λ (t : IsFixedWord r.role (storage a) word). let name : storage a ≡ storage t.at = t.name_is in let same : a ≡ t.at = cc in ap r.role same ∙ t.is)
+      (λ (t : IsLinkWord r.node (siblings w) (storage a) word). (let no : storage a ≡ sibling t.structure = t.name_is in absurd cc)) f) (r.lasting.known id v at l (storage a) word e)
+
+  -- a sibling link that is known is still the word there, and its structure is born
+  pub known_link : (s : Sid) (word : ℕ) → told v.lasting (sibling s) ≡ Some word → (w (sibling s) ≡ word) × ((n : Node) × (r.node s ≡ Some n))
+  known_link s word e = ⊎_elim
+      (λ (t : IsNodeWord r.node (sibling s) word). (let no : sibling s ≡ node t.structure = t.name_is in absurd cc))
+      (λ (f : IsFixedWord r.role (sibling s) word ⊎ IsLinkWord r.node (siblings w) (sibling s) word). ⊎_elim
+      (λ (t : IsFixedWord r.role (sibling s) word). (let no : sibling s ≡ storage t.at = t.name_is in absurd cc))
+      (λ (t : IsLinkWord r.node (siblings w) (sibling s) word).
+      let name : sibling s ≡ sibling t.structure = t.name_is in
+      let same : s ≡ t.structure = cc in
+      (ap (siblings w) same ∙ t.word_is, (t.found, ap r.node same ∙ t.is))) f) (r.lasting.known id v at l (sibling s) word e)
+
+  -- The link of a structure to its first child is 0 or names a child, as the word is now.
+  pub finds_first : (s : Sid) → IsLink r.node s (w (first_child s))
+  finds_first s = r.shaped.firsts s
+
+  -- the sibling link of a structure below a root is loaded and known from then on; it is 0 or names another child of the parent
+  pub loads_sibling : (s : Sid) (n : Node) (counts : Counts) → IsNode n → told v.lasting (node s) ≡ Some (node_bits n) → 0 < n.depth → IsLink r.node n.parent (w (sibling s)) × Rule P w (set views id (lasting v (sibling s) (w (sibling s)) counts))
+  loads_sibling s n counts formed e deep =
+      let is = known_node s n formed e in
+      ((made_below r.shaped s n is deep).next, keeps_lasting (sibling s) (w (sibling s)) counts (inr (inr (record { structure = s; found = n; name_is = refl; is = is; word_is = refl }))))
+
+  -- a link that names a known node is one to a child of that node's parent
+  pub known_child_link : (s : Sid) (n : Node) → IsNode n → told v.lasting (node s) ≡ Some (node_bits n) → 0 < n.depth → LinksTo r.node n.parent (s.0 + 1)
+  known_child_link s n formed e deep = record { child = s; found = n; number = refl; there = known_node s n formed e; parent_is = refl; deep = deep }
 
   -- A structure whose node is known is its parent's with one change.
   pub known_child : (s : Sid) (n : Node) → IsNode n → told v.lasting (node s) ≡ Some (node_bits n) → 0 < n.depth → IsChildOf n (r.shape n.parent) × (r.shape s ≡ shape_after n (r.shape n.parent))

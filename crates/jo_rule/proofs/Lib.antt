@@ -16,6 +16,8 @@ pub mod Sights
 pub mod Marked
 pub mod Lasting
 pub mod Counted
+pub mod Concluded
+pub mod Raised
 pub mod Timing
 pub mod Allowed
 pub mod Events
@@ -24,6 +26,7 @@ pub mod Moves
 pub mod Stores
 pub mod Looks
 pub mod Known
+pub mod Opened
 pub mod Placings
 pub mod Puts
 pub mod Takes

@@ -1,9 +1,9 @@
 -- Loads of cells, values and sets: a pin, a licence, a set that is known to be fired, and what is read under them. And what two views
 -- know of one object.
-use Rattle.std.proofs.Common.{◌≡◌, ◌≢◌, ◌⊎◌, ◌≤◌, ℕ, zero, suc, Bool, true, false, List, ◌∷◌, length, set, refl, sym, ap, ◌∙◌, subst, inl, inr, ⊎_elim, arith, Option, Some}
+use Rattle.std.proofs.Common.{◌≡◌, ◌≢◌, ◌⊎◌, ◌≤◌, ℕ, zero, suc, Bool, true, false, List, [], ◌∷◌, ◌++◌, length, take, drop, set, refl, sym, ap, ◌∙◌, subst, inl, inr, ⊎_elim, arith, Option, Some, None}
 use mathlib.Core.Option.{some, some-injective}
 use lib.ListN.{get_elem?}
-use Rattle.std.specs.Prelude.{if◌then◌else◌}
+use Rattle.std.specs.Prelude.{if◌then◌else◌, unwrap_or}
 use Rattle.std.proofs.lemmas.Bool.{both_ways}
 use Rattle.jo_value.specs.declared.capacities.TheConstants.{VALID, FIRED}
 use Rattle.jo_value.specs.declared.value.Key.{Key}
@@ -14,14 +14,25 @@ use Rattle.jo_value.specs.declared.value.Sid.{Sid}
 use Rattle.jo_value.specs.declared.words.cell.Cell.{Cell}
 use Rattle.jo_value.specs.declared.words.cell.Kind.{Kind}
 use Rattle.jo_value.specs.declared.words.cell.Kind.TheVariants.{Flat, Segmented, Opening, Dictionary}
-use Rattle.jo_model.specs.Objects.{Object}
+use Rattle.jo_value.specs.declared.value.Value.{Value}
+use Rattle.jo_value.specs.declared.value.Value.TheVariants.{Undefined}
+use Rattle.jo_value.specs.declared.words.slot.Slot.TheVariants.{Absent, Holds}
+use Rattle.jo_value.specs.Words.{IsSlot, slot_bits}
+use Rattle.jo_value.proofs.Distinct.{slot_words}
+use Rattle.jo_model.specs.Valid.{IsValidValue}
+use Rattle.jo_model.proofs.ValidBirths.{KeepsBorn, value_kept}
+use Rattle.jo_model.proofs.ValidEdits.{value_valid}
+use Rattle.jo_rule.proofs.Heaps.{born-longer}
+use Rattle.jo_rule.specs.Dictionaries.{slot_in}
+use Rattle.jo_model.specs.Objects.{Object, property}
 use Rattle.jo_model.specs.Heaps.{object_of}
-use Rattle.jo_model.specs.Logs.{after}
+use Rattle.jo_model.specs.Logs.{Log, after, heap_at}
 use Rattle.jo_rule.specs.declared.counts.Counts.{Counts}
 use Rattle.jo_rule.specs.declared.watched.SetKind.{SetKind}
 use Rattle.jo_rule.specs.declared.watched.SetKind.TheVariants.{Transition, Write}
 use Rattle.jo_rule.specs.Names.{WordName, epoch}
 use Rattle.jo_rule.specs.Areas.{Words, is_same_word}
+use Rattle.jo_rule.specs.Marks.{Mark}
 use Rattle.jo_rule.specs.Shapes.{Shape, offset_of}
 use Rattle.jo_rule.specs.Spots.{Spot, offset, element, Location, name_of_place, values, spot_of}
 use Rattle.jo_rule.specs.Roles.{Role, value, role_at, frame, IsBlockOf}
@@ -42,6 +53,17 @@ use Rattle.jo_rule.proofs.Stores.{numbers_of}
 pub cons_each : {A : Type 0} (Q : A → Type 0) (x : A) (l : List A) → Q x → Each l (λ k a. Q a) → Each (x ∷ l) (λ k a. Q a)
 cons_each Q x l here there zero a e = subst Q (some-injective x a e) here
 cons_each Q x l here there (suc k) a e = there k a e
+
+-- a list is its beginning and the rest
+split_list : {A : Type 0} (n : ℕ) (l : List A) → take n l ++ drop n l ≡ l
+split_list {A} zero l = refl
+split_list {A} (suc n) [] = refl
+split_list {A} (suc n) (x ∷ l) = ap (λ (t : List A). x ∷ t) (split_list n l)
+
+-- a slot that holds a value is that of a property which is there
+value_held : (x : Option Value) (v : Value) → slot_in x ≡ Holds v → x ≡ Some v
+value_held None v e = (let no : Absent ≡ Holds v = e in absurd cc)
+value_held (Some y) v e = (let same : Holds y ≡ Holds v = e in cc)
 
 pub segmented_not_flat : (k : Kind) → is_segmented k ≡ true → is_flat k ≡ false
 segmented_not_flat Flat e = (let no : false ≡ true = e in absurd cc)
@@ -214,10 +236,10 @@ module _ {P : ℕ} {w : Words} {views : List View} (id : ℕ) (v : View) (r : Ru
       let h = r.sights.each id v at l in
       let t = r.timing.timed id v at l in
       let st = standing r.contents o c cell in
-      looks id v u r at l (numbers_of v u refl refl refl refl refl refl) (saw_all sight counts) refl refl refl refl
+      looks id v u r at l (numbers_of v u refl refl refl refl refl refl) (saw_all sight counts) refl refl refl refl refl refl
       record {
         sees = cons_each (λ (p : Pin). is_keyed p.cell.kind ≡ true → Sees P (values w) (r.shape p.cell.sid) r.role r.log p) p v.sight.pins
-            (λ key. let k = keyed_of st key in sees_now P (values w) (r.shape c.sid) r.role r.log o c (w epoch) st.structure st.root (r.contents.words o) (subst (λ (b : Bool). IsBlockOf r.role b o c.address) k.0.segmented_is k.1.block)
+            (λ key. let k = keyed_of st key in sees_now P (values w) (r.shape c.sid) r.role r.log o c (w epoch) st.structure st.root (r.contents.words o) r.contents.valid (subst (λ (b : Bool). IsBlockOf r.role b o c.address) k.0.segmented_is k.1.block)
             (subst (λ (b : Bool). Rattle.jo_rule.specs.Contents.HasKeys (values w) r.role b (r.shape c.sid) o c.address (object_of (after P r.log) o)) k.0.segmented_is k.1.keys)) h.sees;
         follows = cons_each (λ (p : Pin). is_keyed p.cell.kind ≡ true → IsFollowed r.role r.shape (r.cell p.object) (r.now p.object) v.number p) p v.sight.pins
             (λ key. let k = keyed_of st key in record {
@@ -255,6 +277,15 @@ module _ {P : ℕ} {w : Words} {views : List View} (id : ℕ) (v : View) (r : Ru
   pub finds_value : (i : ℕ) (p : Pin) (key : Key) (y : Spot) (a : Location) → get_elem? v.sight.pins i ≡ some p → is_keyed p.cell.kind ≡ true → spot_of (r.shape p.cell.sid) key ≡ Some y → frame r.role (is_segmented p.cell.kind) p.object p.cell.address y ≡ Some a → Valued P r.log p.object key p.place (values w a)
   finds_value i p key y a has keyed is place = ((r.sights.each id v at l).sees i p has keyed).values key y a is place
 
+  -- A value that was loaded so is valid after the log, so that a call may name it.
+  pub valued_valid : (o : ObjId) (key : Key) (n word : ℕ) (x : Value) → Valued P r.log o key n word → IsSlot (Holds x) → word ≡ slot_bits (Holds x) → IsValidValue (after P r.log) x
+  valued_valid o key n word x h slot is =
+      let heap = heap_at P h.at r.log in
+      let same : slot_in (property (object_of heap o) key) ≡ Holds x = slot_words (slot_in (property (object_of heap o) key)) (Holds x) h.slot slot (sym h.is ∙ is) in
+      let rest : r.log ≡ take h.at r.log ++ drop h.at r.log = sym (split_list h.at r.log) in
+      let kept : KeepsBorn heap (after P r.log) = subst (λ (log : Log Mark). KeepsBorn heap (after P log)) (sym rest) (born-longer P (take h.at r.log) (drop h.at r.log)) in
+      value_kept heap (after P r.log) kept x (subst (IsValidValue heap) (ap (λ (y : Option Value). unwrap_or y Undefined) (value_held (property (object_of heap o) key) x same)) (value_valid heap (object_of heap o) key h.valid))
+
   right_more : (licences : List Licence) (x : Licence) (o : ObjId) (y : Spot) → HasRight r.shape licences v.lock v.sets.fired o y → HasRight r.shape (x ∷ licences) v.lock v.sets.fired o y
   right_more licences x o y h = ⊎_elim (λ (t : ByWrites licences o). inl (record { index = suc t.index; licence = t.licence; is = t.is; object = t.object; writes = t.writes }))
       (λ (t : ByTransitions r.shape licences o y ⊎ ByLock r.shape v.lock v.sets.fired o y). ⊎_elim
@@ -273,7 +304,7 @@ module _ {P : ℕ} {w : Words} {views : List View} (id : ℕ) (v : View) (r : Ru
       let u : View = record v { sight = sight; counts = counts } in
       let h = r.sights.each id v at l in
       let t = r.timing.timed id v at l in
-      looks id v u r at l (numbers_of v u refl refl refl refl refl refl) (record { calls = refl; more = begins_itself v.past.seen; seen = r.histories.seen id v at l }) refl refl refl refl
+      looks id v u r at l (numbers_of v u refl refl refl refl refl refl) (record { calls = refl; more = begins_itself v.past.seen; seen = r.histories.seen id v at l }) refl refl refl refl refl refl
       record {
         sees = h.sees;
         follows = h.follows;
@@ -312,7 +343,7 @@ module _ {P : ℕ} {w : Words} {views : List View} (id : ℕ) (v : View) (r : Ru
   finds_fired s which counts is =
       let u = with_fired v r.log s which counts in
       let h = r.sights.each id v at l in
-      looks id v u r at l (numbers_of v u refl refl refl refl refl refl) (record { calls = refl; more = r.histories.seen id v at l; seen = begins_itself r.log }) refl refl refl refl
+      looks id v u r at l (numbers_of v u refl refl refl refl refl refl) (record { calls = refl; more = r.histories.seen id v at l; seen = begins_itself r.log }) refl refl refl refl refl refl
       record {
         sees = h.sees;
         follows = h.follows;
@@ -341,7 +372,7 @@ module _ {P : ℕ} {w : Words} {views : List View} (id : ℕ) (v : View) (r : Ru
       let sight = with_known v.sight (name_of_place a) (values w a) in
       let u : View = record v { sight = sight; counts = counts } in
       let t = r.timing.timed id v at l in
-      looks id v u r at l (numbers_of v u refl refl refl refl refl refl) (record { calls = refl; more = begins_itself v.past.seen; seen = r.histories.seen id v at l }) refl refl refl refl
+      looks id v u r at l (numbers_of v u refl refl refl refl refl refl) (record { calls = refl; more = begins_itself v.past.seen; seen = r.histories.seen id v at l }) refl refl refl refl refl refl
       record {
         sees = h.sees;
         follows = h.follows;

@@ -69,6 +69,7 @@ module _ {log : Log Mark} {cells : ObjId → Option Cell} {so : ObjId → Bool} 
     others = r.others;
     unopened = λ o c is k h. r.unopened o c is k (opened_before e (λ by m f q same cause. other by m f q cause) h);
     unborn = λ o is h. r.unborn o is (opened_before e (λ by m f q same cause. other by m f q cause) h);
+    apart = λ o is h. r.apart o is (opened_before e (λ by m f q same cause. other by m f q cause) h);
   }
 
   -- a cell becomes another that is born so, or that has keys where it had them
@@ -83,6 +84,7 @@ module _ {log : Log Mark} {cells : ObjId → Option Cell} {so : ObjId → Bool} 
         unborn = λ q e. ⊎_elim
             (λ (f : q ≡ o). (let no : Some c ≡ None = sym (ap (set_object cells o (Some c)) f ∙ object_here cells o (Some c)) ∙ e in absurd cc))
             (λ (f : q ≢ o). r.unborn q (sym (object_else cells o q (Some c) f) ∙ e)) (cases_object q o);
+        apart = r.apart;
       }
 
   -- an object is born, as a dictionary or with its keys at places
@@ -98,11 +100,12 @@ module _ {log : Log Mark} {cells : ObjId → Option Cell} {so : ObjId → Bool} 
             (λ q n x e k. object_else so o q b n ∙ r.others q x (sym (object_else cells o q (Some c) n) ∙ e) k);
         unopened = cases (λ q. (x : Cell) → set_object cells o (Some c) q ≡ Some x → is_keyed x.kind ≡ true → WasOpened log q → ⊥) (λ x e k. r.unborn o was) (λ q n x e k. r.unopened q x (sym (object_else cells o q (Some c) n) ∙ e) k);
         unborn = cases (λ q. set_object cells o (Some c) q ≡ None → WasOpened log q → ⊥) (λ e. (let no : Some c ≡ None = sym (object_here cells o (Some c)) ∙ e in absurd cc)) (λ q n e. r.unborn q (sym (object_else cells o q (Some c) n) ∙ e));
+        apart = cases (λ q. set_object so o b q ≡ true → WasOpened log q → ⊥) (λ e. r.unborn o was) (λ q n e. r.apart q (sym (object_else so o q b n) ∙ e));
       }
 
   -- an object is opened, with its mark
-  pub born_so_opened : (o : ObjId) (c d : Cell) (by : ℕ) (cause : Rattle.jo_rule.specs.declared.cause.Cause.Cause) → cells o ≡ Some d → is_keyed c.kind ≡ false → BornSo (log ++ mark by (opened o cause) ∷ []) (set_object cells o (Some c)) so
-  born_so_opened o c d by cause was key =
+  pub born_so_opened : (o : ObjId) (c d : Cell) (by : ℕ) (cause : Rattle.jo_rule.specs.declared.cause.Cause.Cause) → cells o ≡ Some d → is_keyed d.kind ≡ true → is_keyed c.kind ≡ false → BornSo (log ++ mark by (opened o cause) ∷ []) (set_object cells o (Some c)) so
+  born_so_opened o c d by cause was key' key =
       let e : LogEntry Mark = mark by (opened o cause) in
       let here : WasOpened (log ++ e ∷ []) o = record { at = length log; by = by; cause = cause; is = get_last log e } in
       let away : (q : ObjId) → q ≢ o → WasOpened (log ++ e ∷ []) q → WasOpened log q = λ q n h. opened_before e (λ by' m f p same why g. (let both : mark by (opened o cause) ≡ mark by' (opened p why) = f ∙ ap (λ (z : Mark). mark by' z) g in n (sym same ∙ (let k : o ≡ p = cc in sym k)))) h in
@@ -113,6 +116,7 @@ module _ {log : Log Mark} {cells : ObjId → Option Cell} {so : ObjId → Bool} 
         others = cases (λ q. (x : Cell) → set_object cells o (Some c) q ≡ Some x → is_keyed x.kind ≡ true → so q ≡ false) (λ x f k. absurd (no_key x f k)) (λ q n x f k. r.others q x (sym (object_else cells o q (Some c) n) ∙ f) k);
         unopened = cases (λ q. (x : Cell) → set_object cells o (Some c) q ≡ Some x → is_keyed x.kind ≡ true → WasOpened (log ++ e ∷ []) q → ⊥) (λ x f k h. no_key x f k) (λ q n x f k h. r.unopened q x (sym (object_else cells o q (Some c) n) ∙ f) k (away q n h));
         unborn = cases (λ q. set_object cells o (Some c) q ≡ None → WasOpened (log ++ e ∷ []) q → ⊥) (λ f h. (let no : Some c ≡ None = sym (object_here cells o (Some c)) ∙ f in absurd cc)) (λ q n f h. r.unborn q (sym (object_else cells o q (Some c) n) ∙ f) (away q n h));
+        apart = cases (λ q. so q ≡ true → WasOpened (log ++ e ∷ []) q → ⊥) (λ f h. both_ways (so o) (r.others o d was key') f) (λ q n f h. r.apart q f (away q n h));
       }
 
 module _ {log : Log Mark} {cells : ObjId → Option Cell} {shape : Sid → Shape} {sets : Sid → SetKind → ℕ} (r : Marked log cells shape sets) where

@@ -15,6 +15,14 @@ use Rattle.jo_model.specs.Objects.{Object}
 use Rattle.jo_model.specs.Heaps.{Heap, objects_of, object_of, IsBorn}
 use Rattle.jo_model.specs.Logs.{Log, after}
 use Rattle.jo_model.specs.Valid.{IsValidHeap}
+use Rattle.jo_value.specs.declared.limits.TheConstants.{MOST_OBJECTS}
+use Rattle.jo_model.proofs.ValidEdits.{within_most}
+use Rattle.jo_rule.proofs.Heaps.{within_passes, passes-after, formed-after}
+use Rattle.jo_rule.specs.Raised.{Raised}
+use Rattle.jo_rule.proofs.Raised.{debts_of, raised_same}
+use Rattle.jo_rule.specs.Views.{Past}
+use Rattle.jo_rule.specs.Concluded.{Concluded}
+use Rattle.jo_rule.proofs.Concluded.{OpensAlike, alike_same, AtLeast, at_least_same, at_least_event, concluded_same}
 use Rattle.jo_rule.specs.declared.event.Event.{Event}
 use Rattle.jo_rule.specs.Names.{epoch, cell, storage}
 use Rattle.jo_rule.specs.Areas.{Words, put, acknowledgements, stored, set_number, set_object}
@@ -35,7 +43,7 @@ use Rattle.jo_rule.specs.Views.{View, Lock, Pin}
 use Rattle.jo_rule.specs.Events.{recorded, past_after}
 use Rattle.jo_rule.specs.Dictionaries.{block_size, dictionary_header}
 use Rattle.jo_rule.specs.Contents.{Role, unnamed, fixed, dictionary, Now, Grows, word_of_cell, is_born, is_keyed, is_segmented, Standing, Stands, HasWords}
-use Rattle.jo_rule.specs.Owned.{address_of, OwnsStorage}
+use Rattle.jo_rule.specs.Owned.{address_of, structures_in, OwnsStorage}
 use Rattle.jo_rule.specs.Histories.{Histories}
 use Rattle.jo_rule.specs.Locks.{Locks}
 use Rattle.jo_rule.specs.Rule.{Rule}
@@ -159,8 +167,8 @@ module _ {P : ℕ} {w : Words} {views : List View} (id : ℕ) (v u : View) (r : 
   alive = sym same.live ∙ l
 
   -- a step changes no word, and the pass saw more of the log, or as much
-  pub looks : SawMore r.log v u → v.storage ≡ u.storage → v.births.objects ≡ u.births.objects → v.births.nodes ≡ u.births.nodes → v.lock ≡ u.lock → SightOf r id u → ViewIsTimed (w epoch) (acknowledgements w) id u → Rule P w (set views id u)
-  looks saw store objects nodes lock sight times = record {
+  pub looks : SawMore r.log v u → v.storage ≡ u.storage → v.births.objects ≡ u.births.objects → structures_in v.births ≡ structures_in u.births → v.lock ≡ u.lock → debts_of v ≡ debts_of u → v.time.unowed ≡ u.time.unowed → SightOf r id u → ViewIsTimed (w epoch) (acknowledgements w) id u → Rule P w (set views id u)
+  looks saw store objects nodes lock owed unowed sight times = record {
     log = r.log;
     made = r.made;
     home = r.home;
@@ -187,11 +195,13 @@ module _ {P : ℕ} {w : Words} {views : List View} (id : ℕ) (v u : View) (r : 
     timing = timing_set views id u r.timing times;
     lasting = lasting_same views id v u at l same.lasting r.lasting;
     counted = r.counted;
+    concluded = concluded_same views id v u at l (numbers same) r.concluded (alike_same lock) (ap (λ (x : ℕ × List Rattle.jo_rule.specs.Views.KnownWord). x.0) nodes) (at_least_same v.past.calls u.past.calls saw.calls);
+    raised = raised_same views id v u at l (numbers same) r.histories r.raised owed unowed;
   }
 
   -- a step changes no word, and an event is placed that is no change
-  pub looks_event : (event : Event) → RefusesLawfully v.number r.log event → recorded P v.number event r.log ≡ r.log → u.past ≡ past_after P v.number event r.log v.past.calls → v.storage ≡ u.storage → v.births.objects ≡ u.births.objects → v.births.nodes ≡ u.births.nodes → v.lock ≡ u.lock → SightOf r id u → ViewIsTimed (w epoch) (acknowledgements w) id u → Rule P w (set views id u)
-  looks_event event law stays past store objects nodes lock sight times = record {
+  pub looks_event : (event : Event) → RefusesLawfully v.number r.log event → recorded P v.number event r.log ≡ r.log → u.past ≡ past_after P v.number event r.log v.past.calls → v.storage ≡ u.storage → v.births.objects ≡ u.births.objects → structures_in v.births ≡ structures_in u.births → v.lock ≡ u.lock → debts_of v ≡ debts_of u → v.time.unowed ≡ u.time.unowed → SightOf r id u → ViewIsTimed (w epoch) (acknowledgements w) id u → Rule P w (set views id u)
+  looks_event event law stays past store objects nodes lock owed unowed sight times = record {
     log = r.log;
     made = r.made;
     home = r.home;
@@ -218,13 +228,15 @@ module _ {P : ℕ} {w : Words} {views : List View} (id : ℕ) (v u : View) (r : 
     timing = timing_set views id u r.timing times;
     lasting = lasting_same views id v u at l same.lasting r.lasting;
     counted = r.counted;
+    concluded = concluded_same views id v u at l (numbers same) r.concluded (alike_same lock) (ap (λ (x : ℕ × List Rattle.jo_rule.specs.Views.KnownWord). x.0) nodes) (subst (AtLeast v.past.calls) (sym (ap (λ (x : Past). x.calls) past)) (at_least_event P v.number event r.log v.past.calls));
+    raised = raised_same views id v u at l (numbers same) r.histories r.raised owed unowed;
   }
 
   -- a storage word is stored that is free
-  pub stores : (a x : ℕ) → SawMore r.log v u → v.births.objects ≡ u.births.objects → v.births.nodes ≡ u.births.nodes → IsFree P r.made id views r.role r.cell a
+  pub stores : (a x : ℕ) → SawMore r.log v u → v.births.objects ≡ u.births.objects → structures_in v.births ≡ structures_in u.births → debts_of v ≡ debts_of u → v.time.unowed ≡ u.time.unowed → OpensAlike v.lock u.lock → IsFree P r.made id views r.role r.cell a
       → OwnsStorage (set_number (stored w) a x) r.role u.number u.storage → Locks (set_number (stored w) a x) r.cell r.now (after P r.log) (set views id u)
       → ViewIsSighted P (w epoch) (values (put w (storage a) x)) r.cell r.shape r.role r.now (watched w) r.log r.sights.floor r.sights.sealed r.sights.firer id u → ViewIsTimed (w epoch) (acknowledgements w) id u → Rule P (put w (storage a) x) (set views id u)
-  stores a x saw objects nodes free own locks sight times = record {
+  stores a x saw objects nodes owed unowed alike free own locks sight times = record {
     log = r.log;
     made = r.made;
     home = r.home;
@@ -247,24 +259,26 @@ module _ {P : ℕ} {w : Words} {views : List View} (id : ℕ) (v u : View) (r : 
     locks = locks;
     unborn = r.unborn;
     unmade = goes_unmade (λ t k le lt lk h. h) (λ t k le lt lk h. number_else (stored w) a (address_of t k) x (λ f. free.unmade t k le lt lk (ap r.role (sym f) ∙ h) f)) (λ t le. refl) r.unmade;
-    sights = sights_set views id u r.sights (λ j y n e ly h. sighted_store h (stored_at a) r.contents.words (λ q. cases_place q (stored_at a)) (stores_else w a x) free.no_value) sight;
+    sights = sights_set views id u r.sights (λ j y n e ly h. sighted_store h (stored_at a) r.contents.words r.contents.valid (λ q. cases_place q (stored_at a)) (stores_else w a x) free.no_value) sight;
     born_so = r.born_so;
     marked = r.marked;
     allowed = allowed_same views id v u at l same.flat r.allowed;
     timing = timing_set views id u r.timing times;
     lasting = lasting_same views id v u at l same.lasting r.lasting;
     counted = r.counted;
+    concluded = concluded_same views id v u at l (numbers same) r.concluded alike (ap (λ (x : ℕ × List Rattle.jo_rule.specs.Views.KnownWord). x.0) nodes) (at_least_same v.past.calls u.past.calls saw.calls);
+    raised = raised_same views id v u at l (numbers same) r.histories r.raised owed unowed;
   }
 
   -- the cell of an object is stored, with an event on it
   pub moves : (event : Event) (o : ObjId) (c : Cell) (now : Now) (role : ℕ → Role) → (r.allowed.flat ≡ false → IsDictionaryOf o c) → RefusesLawfully v.number r.log event → u.past ≡ past_after P v.number event r.log v.past.calls
       → RolesGrow P (stored w) v.number r.role role → OneChanges v.number o (after P r.log) (after P (recorded P v.number event r.log))
       → Standing (values w) role (r.shape c.sid) o c now (object_of (after P (recorded P v.number event r.log)) o) → ((q : ObjId) → is_born (set_object r.cell o (Some c) q) ≡ nat_lt q.serial (length (objects_of (after P (recorded P v.number event r.log)) q.pass)))
-      → OwnsStorage (stored w) role u.number u.storage → u.births.objects ≡ length (objects_of (after P (recorded P v.number event r.log)) u.number) → v.births.nodes ≡ u.births.nodes
+      → OwnsStorage (stored w) role u.number u.storage → u.births.objects ≡ length (objects_of (after P (recorded P v.number event r.log)) u.number) → structures_in v.births ≡ structures_in u.births
       → Locks (stored w) (set_object r.cell o (Some c)) (set_object r.now o now) (after P (recorded P v.number event r.log)) (set views id u) → PinsGoOn r id o c now role
       → ViewIsSighted P (w epoch) (values w) (set_object r.cell o (Some c)) r.shape role (set_object r.now o now) (watched w) (recorded P v.number event r.log) r.sights.floor r.sights.sealed r.sights.firer id u
-      → (so : ObjId → Bool) → BornSo (recorded P v.number event r.log) (set_object r.cell o (Some c)) so → ((c.shared_write ≡ true) ⊎ (is_segmented c.kind ≡ true) → HasForeignMark o.pass r.log) → CountsGo P r.log (recorded P v.number event r.log) o r.shape c → ViewIsTimed (w epoch) (acknowledgements w) id u → Rule P (put w (cell o) (cell_bits c)) (set views id u)
-  moves event o c now role kinds law past roles one here born own objects nodes locks pins sight so came marks go times =
+      → (so : ObjId → Bool) → BornSo (recorded P v.number event r.log) (set_object r.cell o (Some c)) so → ((c.shared_write ≡ true) ⊎ (is_segmented c.kind ≡ true) → HasForeignMark o.pass r.log) → CountsGo P r.log (recorded P v.number event r.log) o r.shape c → Concluded P (recorded P v.number event r.log) (set views id u) → Raised P r.made (w epoch) (set_object r.cell o (Some c)) r.shape (watched w) (set views id u) → ViewIsTimed (w epoch) (acknowledgements w) id u → Rule P (put w (cell o) (cell_bits c)) (set views id u)
+  moves event o c now role kinds law past roles one here born own objects nodes locks pins sight so came marks go concluded raised times =
       let lt = (r.histories.seated id v at l).own.1 in
       let far : (t : ℕ) → r.made ≤ t → t ≢ v.number = λ t le e. omega arith in record {
         log = recorded P v.number event r.log;
@@ -298,4 +312,16 @@ module _ {P : ℕ} {w : Words} {views : List View} (id : ℕ) (v u : View) (r : 
         timing = timing_set views id u r.timing times;
         lasting = lasting_grows views id v u at l same.lasting (λ s n e. e) roles.grows r.lasting;
         counted = counted_cell r.counted o c go;
+        concluded = concluded;
+        raised = raised;
       }
+
+-- the cell of a born object is one of the heap's objects
+pub object_within : {P : ℕ} {w : Words} {views : List View} (id : ℕ) (v : View) (r : Rule P w views) → get_elem? views id ≡ some v → v.live ≡ true → (o : ObjId) (c : Cell) → r.cell o ≡ Some c → (o.pass < P) × (o.serial < MOST_OBJECTS)
+object_within {P} id v r at l o c e =
+    let born = born_of r o c e in
+    let below = (r.histories.seated id v at l).own.1 in
+    let few = r.histories.few in
+    let lt = within_passes (after P r.log) o born in
+    let passes = passes-after P r.log (omega arith) in
+    (omega arith, within_most (after P r.log) o (formed-after P r.log) born)

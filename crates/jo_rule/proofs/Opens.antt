@@ -15,7 +15,7 @@ use Rattle.jo_model.specs.Objects.{Object, empty_object}
 use Rattle.jo_model.specs.Heaps.{heap_at_start, objects_of, object_of, shared}
 use Rattle.jo_model.proofs.Growing.{log-nil}
 use Rattle.jo_model.proofs.Valid.{valid_at_start}
-use Rattle.jo_rule.specs.Names.{WordName, first_child, transition_set, write_set, cell, inline, word_at, is_word}
+use Rattle.jo_rule.specs.Names.{WordName, first_child, sibling, transition_set, write_set, cell, inline, word_at, is_word}
 use Rattle.jo_rule.specs.Areas.{words_of, nodes, first_children, siblings, cells, stored, set_object}
 use Rattle.jo_rule.specs.Shapes.{Shape, unborn_shape, root_shape, IsShape, word_of_node, Shaped}
 use Rattle.jo_rule.specs.Spots.{values}
@@ -41,6 +41,8 @@ use Rattle.jo_rule.specs.Rule.{Rule}
 use Rattle.jo_rule.specs.Steps.{opening_view}
 use Rattle.jo_rule.specs.Opening.{shared_cell, opening_word, opening_words, AreOpening}
 use Rattle.jo_rule.proofs.Names.{word_back, word_below}
+use Rattle.jo_rule.proofs.Concluded.{concluded_first}
+use Rattle.jo_rule.proofs.Raised.{raised_first}
 use Rattle.jo_rule.proofs.Lists.{live_one, no_each, no_item}
 use Rattle.jo_rule.proofs.Events.{no_words}
 use Rattle.jo_rule.proofs.Naming.{named_roles, named_first, named_words, named_else}
@@ -176,6 +178,11 @@ root_cases P s = ⊎_elim
 first_none : (P : ℕ) (s : Sid) → is_root_of P s ≡ false → (first_node P s ≡ None) × (first_shape P s ≡ unborn_shape)
 first_none P s e = (rw e refl, rw e refl)
 
+first_inside_shape : (P : ℕ) (s : Sid) → (first_shape P s).born ≡ true → s.0 < MOST_STRUCTURES * P
+first_inside_shape P s b = ⊎_elim
+    (λ (e : is_root_of P s ≡ false). (let no : false ≡ true = sym (ap (λ (z : Shape). z.born) (first_none P s e).1) ∙ b in absurd cc))
+    (λ (e : (t : ℕ) × (t < P) × (s ≡ root_of t)). let lt = e.1 in let is = ap (λ (x : Sid). x.0) e.2 in omega (arith, is)) (root_cases P s)
+
 no_root_word : (P : ℕ) (s : Sid) → is_root_of P s ≡ false → nodes (opening_words P) s ≡ 0
 no_root_word P s e = cond_both (nat_lt s.0 (MOST_STRUCTURES * P)) (cond (eqb (s.0 % MOST_STRUCTURES) 0) (node_bits root_node) 0) 0 (λ x. x ≡ 0)
     (λ t. ⊎_elim (λ (q : eqb (s.0 % MOST_STRUCTURES) 0 ≡ true). absurd (both_ways (is_root_of P s) e (and_from (ltb s.0 (MOST_STRUCTURES * P)) (eqb (s.0 % MOST_STRUCTURES) 0) t q))) (λ (q : eqb (s.0 % MOST_STRUCTURES) 0 ≡ false). rw q refl) (cases_Bool (eqb (s.0 % MOST_STRUCTURES) 0))) (λ f. refl)
@@ -299,7 +306,8 @@ opens_either flat P pos most =
       };
       structures = record {
         roots = node_of_root P;
-        own = live_one (StructuresAreOwn (nodes w)) first record { root = omega arith; few = omega arith; unborn = λ k le lt. node_else P 0 k (omega arith) lt };
+        own = live_one (StructuresAreOwn (nodes w) (siblings w)) first record { root = omega arith; few = omega arith; unborn = λ k le lt. node_else P 0 k (omega arith) lt; links = λ k le lt. none_of (is_word P (sibling (structure_of 0 k))); later = λ k le lt. refl };
+        unlinked = λ t k le lt lo hi. none_of (is_word P (sibling (structure_of t k)));
       };
       locks = record {
         holder = λ o. 0;
@@ -340,6 +348,7 @@ opens_either flat P pos most =
             (λ (n : o ≢ shared). object_else (λ o. false) shared o true n) (cases_object o shared);
         unopened = λ o c e k h. (let i = h.is in absurd cc);
         unborn = λ o e h. (let i = h.is in absurd cc);
+        apart = λ o e h. (let i = h.is in absurd cc);
       };
       marked = record {
         shared = λ o c e h. ⊎_elim
@@ -356,7 +365,9 @@ opens_either flat P pos most =
         dictionaries = λ none_ o c e. first_kind o c e;
       };
       timing = record { timed = live_one (ViewIsTimed 0 (acknowledgements w)) first (timed_new 0 (acknowledgements w) 0 first.time refl refl refl refl (let there : ltb 0 P ≡ true = lt-ltb 0 P pos in rw there refl)) };
-      lasting = record { known = live_one (KnowsLasting (first_node P) first_roles) first (λ name word e. (let no : None ≡ Some word = e in absurd cc)) };
+      lasting = record { known = live_one (KnowsLasting (first_node P) (siblings w) first_roles) first (λ name word e. (let no : None ≡ Some word = e in absurd cc)) };
+      concluded = concluded_first P first refl refl;
+      raised = raised_first P first_cells (first_shape P) (watched w) first refl refl refl refl refl (all_valid P) (first_inside_shape P);
       counted = record {
         unborn = λ o e. (refl, refl);
         depth = λ o c e k. absurd (both_ways (is_dictionary c.kind) k (ap is_dictionary (first_kind o c e).kind));

@@ -16,6 +16,8 @@ use Rattle.jo_model.specs.History.{is_change}
 use Rattle.jo_model.specs.Logs.{Log, heap_at}
 use Rattle.jo_model.specs.Placed.{PlacedCall}
 use Rattle.jo_model.specs.inner.Growing.{IsOwnOrderTo}
+use Rattle.jo_rule.proofs.Raised.{raised_same}
+use Rattle.jo_rule.proofs.Concluded.{alike_same, at_least_more, concluded_same}
 use Rattle.jo_rule.specs.declared.counts.Counts.{Counts}
 use Rattle.jo_rule.specs.Areas.{Words}
 use Rattle.jo_rule.specs.Marks.{Mark}
@@ -86,6 +88,8 @@ module _ {P : ℕ} {w : Words} {views : List View} (id : ℕ) (v : View) (r : Ru
         timing = timing_set views id u r.timing (r.timing.timed id v at l);
         lasting = lasting_same views id v u at l refl r.lasting;
         counted = r.counted;
+        concluded = concluded_same views id v u at l (numbers same) r.concluded (alike_same refl) refl (at_least_more v.past.calls (placed m c answer ∷ []));
+        raised = raised_same views id v u at l (numbers same) r.histories r.raised refl refl;
       }
 
   -- A value is loaded under a pin, and the call is placed where the object has that value: at a place that is not before the pin's.

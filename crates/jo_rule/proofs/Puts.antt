@@ -37,6 +37,10 @@ use Rattle.jo_rule.specs.Events.{recorded, past_after}
 use Rattle.jo_rule.specs.Rule.{Rule}
 use Rattle.jo_rule.specs.Steps.{with_known}
 use Rattle.jo_rule.specs.Sights.{watched, IsTight, Follows, HasRight, IsKnown, told, stamp_in, Sights}
+use Rattle.jo_rule.specs.Concluded.{NotOpened}
+use Rattle.jo_rule.specs.Views.{Past}
+use Rattle.jo_rule.proofs.Concluded.{follows_unopened, alike_same, at_least_same, concluded_same, concluded_event}
+use Rattle.jo_rule.proofs.Raised.{debts_of, raised_same}
 use Rattle.jo_rule.proofs.Lists.{one_there}
 use Rattle.jo_rule.proofs.Sets.{cases_object, number_here, number_else}
 use Rattle.jo_rule.proofs.Names.{same_object, object_is}
@@ -86,6 +90,7 @@ same_key_at {role} {here} {there} {c} {now} {number} {p} q k y formed unused f e
 -- What a store of a value owes: it is the word of a key of an object that is not settled, at its current place, and no other view has a
 -- right to that slot. The event changes the object there alone.
 pub record IsPut {P : ℕ} {w : Words} {views : List View} (r : Rule P w views) (id : ℕ) (v : View) (event : Event) (o : ObjId) (c : Cell) (key : Key) (y : Spot) (a : Location) (x : ℕ) : Type 0 where
+  pub unopened : NotOpened v.lock
   pub law : RefusesLawfully v.number r.log event
   pub cell : r.cell o ≡ Some c
   pub loose : (r.now o).settled ≡ false
@@ -171,14 +176,16 @@ module _ {P : ℕ} {w : Words} {views : List View} (id : ℕ) (v : View) (r : Ru
         unborn = r.unborn;
         unmade = goes_unmade (λ t k le lt lk f. f) (λ t k le lt lk f. number_else (stored w) b (address_of t k) x (λ g. named (ap r.role (sym g) ∙ f))) (λ t le. h.lengths t) r.unmade;
         sights = sights_set views id u r.sights
-            (λ j z n e lz g. sighted_put g z.sight.known a (all_words a x h) (λ q. cases_place q a) more (place_else w a x) (hits a x h j z e lz) (knows_else g a (place_else w a x) (unknown_there a x h j z n e lz)))
-            (sighted_put (r.sights.each id v at l) known a (all_words a x h) (λ q. cases_place q a) more (place_else w a x) (hits a x h id v at l) knows');
+            (λ j z n e lz g. sighted_put g z.sight.known a (all_words a x h) h.valid (λ q. cases_place q a) more (place_else w a x) (hits a x h j z e lz) (knows_else g a (place_else w a x) (unknown_there a x h j z n e lz)))
+            (sighted_put (r.sights.each id v at l) known a (all_words a x h) h.valid (λ q. cases_place q a) more (place_else w a x) (hits a x h id v at l) knows');
         born_so = born_so_event P v.number event r.log r.born_so;
         marked = marked_event P v.number event r.log r.marked;
         allowed = allowed_same views id v u at l refl r.allowed;
         timing = timing_set views id u r.timing record { out = t.out; inside = t.inside; polled = t.polled; pins = t.pins; largest = t.largest; loaded = t.loaded };
         lasting = lasting_same views id v u at l refl r.lasting;
         counted = counted_log r.counted h.steady;
+        concluded = concluded_event views id v u at l (numbers same) r.concluded r.histories event (follows_unopened P r.log v.number event h.unopened) h.unopened refl refl;
+        raised = raised_same views id v u at l (numbers same) r.histories r.raised refl refl;
       }
   puts_at (beside q m) x known counts h knows' =
       let a = beside q m in
@@ -213,14 +220,16 @@ module _ {P : ℕ} {w : Words} {views : List View} (id : ℕ) (v : View) (r : Ru
         };
         unmade = goes_unmade (λ t k le lt lk f. f) (λ t k le lt lk f. refl) (λ t le. h.lengths t) r.unmade;
         sights = sights_set views id u r.sights
-            (λ j z n e lz g. sighted_put g z.sight.known a (all_words a x h) (λ q. cases_place q a) more (place_else w a x) (hits a x h j z e lz) (knows_else g a (place_else w a x) (unknown_there a x h j z n e lz)))
-            (sighted_put (r.sights.each id v at l) known a (all_words a x h) (λ q. cases_place q a) more (place_else w a x) (hits a x h id v at l) knows');
+            (λ j z n e lz g. sighted_put g z.sight.known a (all_words a x h) h.valid (λ q. cases_place q a) more (place_else w a x) (hits a x h j z e lz) (knows_else g a (place_else w a x) (unknown_there a x h j z n e lz)))
+            (sighted_put (r.sights.each id v at l) known a (all_words a x h) h.valid (λ q. cases_place q a) more (place_else w a x) (hits a x h id v at l) knows');
         born_so = born_so_event P v.number event r.log r.born_so;
         marked = marked_event P v.number event r.log r.marked;
         allowed = allowed_same views id v u at l refl r.allowed;
         timing = timing_set views id u r.timing record { out = t.out; inside = t.inside; polled = t.polled; pins = t.pins; largest = t.largest; loaded = t.loaded };
         lasting = lasting_same views id v u at l refl r.lasting;
         counted = counted_log r.counted h.steady;
+        concluded = concluded_event views id v u at l (numbers same) r.concluded r.histories event (follows_unopened P r.log v.number event h.unopened) h.unopened refl refl;
+        raised = raised_same views id v u at l (numbers same) r.histories r.raised refl refl;
       }
 
 -- ---- kinds of step in place
@@ -235,6 +244,7 @@ module _ {P : ℕ} {w : Words} {views : List View} (id : ℕ) (v : View) (r : Ru
       let touch = event_touches P v.number event r.log o may.on (born_of r o c cell) in
       let lt = (r.histories.seated id v at l).own.1 in
       let few = r.histories.few in record {
+        unopened = may.unopened;
         law = event_refuses P v event r.log (r.histories.own id v at l) may.may;
         cell = cell;
         loose = loose;
@@ -304,9 +314,9 @@ module _ {P : ℕ} {w : Words} {views : List View} (id : ℕ) (v : View) (r : Ru
       )
 
 -- a word that is a value of a born object is stored, and no event is placed
-stores_location : {P : ℕ} {w : Words} {views : List View} (id : ℕ) (v u : View) (r : Rule P w views) (at : get_elem? views id ≡ some v) (l : v.live ≡ true) (o : ObjId) (c : Cell) (y : Spot) (a : Location) (x : ℕ) → SameItems v u → r.cell o ≡ Some c → role_at r.role a ≡ value o y → v.past ≡ u.past → v.storage ≡ u.storage → v.births ≡ u.births → v.lock ≡ u.lock → u.live ≡ true
+stores_location : {P : ℕ} {w : Words} {views : List View} (id : ℕ) (v u : View) (r : Rule P w views) (at : get_elem? views id ≡ some v) (l : v.live ≡ true) (o : ObjId) (c : Cell) (y : Spot) (a : Location) (x : ℕ) → SameItems v u → r.cell o ≡ Some c → role_at r.role a ≡ value o y → v.past ≡ u.past → v.storage ≡ u.storage → v.births ≡ u.births → v.lock ≡ u.lock → debts_of v ≡ debts_of u → v.time.unowed ≡ u.time.unowed → u.live ≡ true
     → Contents P (values (put w (name_of_place a) x)) r.cell r.shape r.role r.now (after P r.log) → Sights P (w epoch) (values (put w (name_of_place a) x)) r.cell r.shape r.role r.now (watched w) r.log (set views id u) → ViewIsTimed (w epoch) (acknowledgements w) id u → Rule P (put w (name_of_place a) x) (set views id u)
-stores_location {P} {w} {views} id v u r at l o c y (stored_at b) x same cell role_is past store births lock lu contents' sights' times =
+stores_location {P} {w} {views} id v u r at l o c y (stored_at b) x same cell role_is past store births lock owed unowed lu contents' sights' times =
     let named : r.role b ≢ unnamed = λ e. let no : value o y ≡ unnamed = sym role_is ∙ e in cc in
     let loose : (word : ℕ) → r.role b ≢ fixed word = λ word e. let no : value o y ≡ fixed word = sym role_is ∙ e in cc in
     let no_words : (q : ObjId) → r.role b ≢ dictionary q = λ q e. let no : value o y ≡ dictionary q = sym role_is ∙ e in cc in record {
@@ -327,7 +337,7 @@ stores_location {P} {w} {views} id v u r at l o c y (stored_at b) x same cell ro
       owned = goes_owned views id u (λ j z n e lz g. owns_else g b x (λ k le lt f. named (ap r.role (sym f) ∙ g.nameless k le lt))) (λ j z n e lz. refl)
           (subst (λ (q : ℕ × Storage). OwnsStorage (set_number (stored w) b x) r.role q.0 q.1) (λ i. (same.number i, store i)) (owns_else (r.owned.storage id v at l) b x (λ k le lt f. named (ap r.role (sym f) ∙ (r.owned.storage id v at l).nameless k le lt))))
           (subst (λ (q : ℕ × Births). q.1.objects ≡ length (objects_of (after P r.log) q.0)) (λ i. (same.number i, births i)) (r.owned.objects id v at l)) r.owned;
-      structures = same_structures views id v u at l same.number (ap (λ (q : Births). q.nodes) births) r.structures;
+      structures = same_structures views id v u at l same.number (ap Rattle.jo_rule.specs.Owned.structures_in births) r.structures;
       locks = same_locks views id v u at l lu lock (λ j z e lz g f s i li. held_else r j z e lz g f b x loose (no_words g.object) s i li) r.locks;
       unborn = r.unborn;
       unmade = goes_unmade (λ t k le lt lk f. f) (λ t k le lt lk f. number_else (stored w) b (address_of t k) x (λ g. named (ap r.role (sym g) ∙ f))) (λ t le. refl) r.unmade;
@@ -338,8 +348,10 @@ stores_location {P} {w} {views} id v u r at l o c y (stored_at b) x same cell ro
       timing = timing_set views id u r.timing times;
       lasting = lasting_same views id v u at l same.lasting r.lasting;
       counted = r.counted;
+      concluded = concluded_same views id v u at l (numbers same) r.concluded (alike_same lock) (ap (λ (q : Births). q.nodes) births) (at_least_same v.past.calls u.past.calls (ap (λ (q : Past). q.calls) past));
+      raised = raised_same views id v u at l (numbers same) r.histories r.raised owed unowed;
     }
-stores_location {P} {w} {views} id v u r at l o c y (beside q m) x same cell role_is past store births lock lu contents' sights' times =
+stores_location {P} {w} {views} id v u r at l o c y (beside q m) x same cell role_is past store births lock owed unowed lu contents' sights' times =
     let owner : q ≡ o = (let both = same_spot r.role (beside q m) (offset m) y refl role_is in both.0) in record {
       log = r.log;
       made = r.made;
@@ -356,7 +368,7 @@ stores_location {P} {w} {views} id v u r at l o c y (beside q m) x same cell rol
       shaped = r.shaped;
       contents = contents';
       owned = same_owned views id u v at l same.number store (ap (λ (q : Births). q.objects) births) r.owned;
-      structures = same_structures views id v u at l same.number (ap (λ (q : Births). q.nodes) births) r.structures;
+      structures = same_structures views id v u at l same.number (ap Rattle.jo_rule.specs.Owned.structures_in births) r.structures;
       locks = same_locks views id v u at l lu lock (λ j z e lz g f s i li. refl) r.locks;
       unborn = record {
         children = r.unborn.children;
@@ -372,6 +384,8 @@ stores_location {P} {w} {views} id v u r at l o c y (beside q m) x same cell rol
       timing = timing_set views id u r.timing times;
       lasting = lasting_same views id v u at l same.lasting r.lasting;
       counted = r.counted;
+      concluded = concluded_same views id v u at l (numbers same) r.concluded (alike_same lock) (ap (λ (q : Births). q.nodes) births) (at_least_same v.past.calls u.past.calls (ap (λ (q : Past). q.calls) past));
+      raised = raised_same views id v u at l (numbers same) r.histories r.raised owed unowed;
     }
 
 -- ---- the word of a slot that no key has
@@ -432,7 +446,7 @@ module _ {P : ℕ} {w : Words} {views : List View} (id : ℕ) (v : View) (r : Ru
   pub stores_hidden : (a : Location) (x : ℕ) (counts : Counts) → r.cell o ≡ Some c → (r.now o).settled ≡ false → frame r.role (r.now o).segmented o c.address (offset j) ≡ Some a → HasRight r.shape v.sight.licences v.lock v.sets.fired o (offset j) → IsHidden r o j
       → Rule P (put w (name_of_place a) x) (set views id (record v { sight = with_known v.sight (name_of_place a) x; counts = counts }))
   stores_hidden a x counts cell loose place right hidden =
-      stores_location id v (record v { sight = with_known v.sight (name_of_place a) x; counts = counts }) r at l o c (offset j) a x same cell role_is refl refl refl refl l contents' sights'
+      stores_location id v (record v { sight = with_known v.sight (name_of_place a) x; counts = counts }) r at l o c (offset j) a x same cell role_is refl refl refl refl refl refl l contents' sights'
       (let t = r.timing.timed id v at l in record { out = t.out; inside = t.inside; polled = t.polled; pins = t.pins; largest = t.largest; loaded = t.loaded })
     where
       st : Standing (values w) r.role (r.shape c.sid) o c (r.now o) (object_of (after P r.log) o)
@@ -465,8 +479,8 @@ module _ {P : ℕ} {w : Words} {views : List View} (id : ℕ) (v : View) (r : Ru
 
       sights' : Sights P (w epoch) (values (put w (name_of_place a) x)) r.cell r.shape r.role r.now (watched w) r.log (set views id (record v { sight = with_known v.sight (name_of_place a) x; counts = counts }))
       sights' = sights_set views id (record v { sight = with_known v.sight (name_of_place a) x; counts = counts }) r.sights
-          (λ i z n e lz g. sighted_put g z.sight.known a r.contents.words (λ q. cases_place q a) (stays r.log) (place_else w a x) (λ k p f keyed q s at_s there. absurd (hit i z e lz k p f keyed q s at_s there)) (knows_else g a (place_else w a x) (unknown i z n e lz)))
-          (sighted_put (r.sights.each id v at l) (with_known v.sight (name_of_place a) x).known a r.contents.words (λ q. cases_place q a) (stays r.log) (place_else w a x) (λ k p f keyed q s at_s there. absurd (hit id v at l k p f keyed q s at_s there))
+          (λ i z n e lz g. sighted_put g z.sight.known a r.contents.words r.contents.valid (λ q. cases_place q a) (stays r.log) (place_else w a x) (λ k p f keyed q s at_s there. absurd (hit i z e lz k p f keyed q s at_s there)) (knows_else g a (place_else w a x) (unknown i z n e lz)))
+          (sighted_put (r.sights.each id v at l) (with_known v.sight (name_of_place a) x).known a r.contents.words r.contents.valid (λ q. cases_place q a) (stays r.log) (place_else w a x) (λ k p f keyed q s at_s there. absurd (hit id v at l k p f keyed q s at_s there))
           (λ name word e. ⊎_elim
           (λ (t : (name ≡ name_of_place a) × (x ≡ word)). record { place = a; name_is = t.0; is = place_here w a x ∙ t.1; object = o; spot = offset j; role_is = role_is; right = right })
           (λ (t : (name ≢ name_of_place a) × (told v.sight.known name ≡ Some word)). (let q = (r.sights.each id v at l).knows name word t.1 in record { place = q.place; name_is = q.name_is; is = place_else w a x q.place (λ f. t.0 (q.name_is ∙ ap name_of_place f)) ∙ q.is; object = q.object; spot = q.spot; role_is = q.role_is; right = q.right }))

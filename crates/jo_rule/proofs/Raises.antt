@@ -20,10 +20,16 @@ use Rattle.jo_rule.specs.Spots.{Location, values}
 use Rattle.jo_rule.specs.Contents.{Role, Now, Contents}
 use Rattle.jo_rule.specs.Views.{View, Pin, Licence, Sight, Time, Since, Firing, Sets, Quarantined, Lock}
 use Rattle.jo_rule.specs.Lists.{Each}
-use Rattle.jo_rule.specs.Locks.{Locks, IsHeld}
+use Rattle.jo_rule.specs.Locks.{KeepsKind, Locks, IsHeld}
 use Rattle.jo_rule.specs.Rule.{Rule}
 use Rattle.jo_rule.specs.Sights.{watched, set_watched, IsFollowed, IsRelied, IsFiring, HasRight, stamp_in, IsSighted, ViewIsSighted, Sights}
 use Rattle.jo_rule.specs.Timing.{IsTimed, ViewIsTimed}
+use Rattle.jo_rule.specs.Views.{Past, Births}
+use Rattle.jo_rule.proofs.Concluded.{OpensAlike, alike_same, at_least_same, concluded_same}
+use Rattle.jo_value.specs.declared.capacities.TheConstants.{MOST_PASSES}
+use Rattle.jo_rule.specs.Raised.{MOST_UNOWED, Raised}
+use Rattle.jo_rule.proofs.Shaped.{deepest}
+use Rattle.jo_rule.proofs.Raised.{stays_firing, raised_free, raised_owed, raised_space}
 use Rattle.jo_rule.proofs.Lists.{live_set, same_item}
 use Rattle.jo_rule.proofs.Sets.{number_here, number_else, object_here, object_else, each_object}
 use Rattle.jo_rule.proofs.Histories.{SameItems, same_placements, same_histories, numbers}
@@ -61,17 +67,17 @@ sighted_raise {P} {E} {v} {cells} {shape} {role} {now} {now'} {sets} {log} {floo
 timed_later : {E : ℕ} {acks : ℕ → ℕ} {number : ℕ} {t : Time} {sight : Sight} → IsTimed E acks number t sight → IsTimed (E + 1) acks number t sight
 timed_later {E} {acks} {number} {t} {sight} h = record { out = h.out; inside = h.inside; polled = (let a = h.polled in omega arith); pins = h.pins; largest = (let a = h.largest in omega arith); loaded = λ n e. (let a = h.loaded n e in omega arith) }
 
--- the time of the pass that raised the epoch
-abbrev pub raised_time : Time → (epoch unowed : ℕ) → Time
-raised_time t e unowed = record t { largest = e; unowed = unowed }
+-- the time of the pass that raised the epoch, with the raises that it owes then and those that it made without owing one
+abbrev pub raised_time : Time → (epoch owed unowed : ℕ) → Time
+raised_time t e owed unowed = record t { largest = e; owed = owed; unowed = unowed }
 
-timed_raised : {E : ℕ} {acks : ℕ → ℕ} {number : ℕ} {t : Time} {sight : Sight} (unowed : ℕ) → IsTimed E acks number t sight → IsTimed (E + 1) acks number (raised_time t (E + 1) unowed) sight
-timed_raised {E} {acks} {number} {t} {sight} unowed h = record { out = h.out; inside = h.inside; polled = (let a = h.polled in omega arith); pins = h.pins; largest = omega arith; loaded = λ n e. (let a = h.loaded n e in omega arith) }
+timed_raised : {E : ℕ} {acks : ℕ → ℕ} {number : ℕ} {t : Time} {sight : Sight} (owed unowed : ℕ) → IsTimed E acks number t sight → IsTimed (E + 1) acks number (raised_time t (E + 1) owed unowed) sight
+timed_raised {E} {acks} {number} {t} {sight} owed unowed h = record { out = h.out; inside = h.inside; polled = (let a = h.polled in omega arith); pins = h.pins; largest = omega arith; loaded = λ n e. (let a = h.loaded n e in omega arith) }
 
 -- what each raise owes
-raises_at : {P : ℕ} {w : Words} {views : List View} (id : ℕ) (v u : View) (r : Rule P w views) → get_elem? views id ≡ some v → v.live ≡ true → u.live ≡ true → SameItems v u → v.past ≡ u.past → v.storage ≡ u.storage → v.births ≡ u.births → (now : ObjId → Now) → Contents P (values w) r.cell r.shape r.role now (after P r.log)
+raises_at : {P : ℕ} {w : Words} {views : List View} (id : ℕ) (v u : View) (r : Rule P w views) → get_elem? views id ≡ some v → v.live ≡ true → u.live ≡ true → SameItems v u → v.past ≡ u.past → v.storage ≡ u.storage → v.births ≡ u.births → OpensAlike v.lock u.lock → Raised P r.made (w epoch + 1) r.cell r.shape (watched w) (set views id u) → (now : ObjId → Now) → Contents P (values w) r.cell r.shape r.role now (after P r.log)
     → Locks (stored w) r.cell now (after P r.log) (set views id u) → Sights P (w epoch + 1) (values w) r.cell r.shape r.role now (watched w) r.log (set views id u) → IsTimed (w epoch + 1) (acknowledgements w) u.number u.time u.sight → Rule P (put w epoch (w epoch + 1)) (set views id u)
-raises_at {P} {w} {views} id v u r at l lu same past store births now contents locks sights times = record {
+raises_at {P} {w} {views} id v u r at l lu same past store births alike raised now contents locks sights times = record {
   log = r.log;
   made = r.made;
   home = r.home;
@@ -87,7 +93,7 @@ raises_at {P} {w} {views} id v u r at l lu same past store births now contents l
   shaped = r.shaped;
   contents = contents;
   owned = same_owned views id u v at l same.number store (ap (λ (b : Rattle.jo_rule.specs.Views.Births). b.objects) births) r.owned;
-  structures = same_structures views id v u at l same.number (ap (λ (b : Rattle.jo_rule.specs.Views.Births). b.nodes) births) r.structures;
+  structures = same_structures views id v u at l same.number (ap Rattle.jo_rule.specs.Owned.structures_in births) r.structures;
   locks = locks;
   unborn = r.unborn;
   unmade = r.unmade;
@@ -98,9 +104,15 @@ raises_at {P} {w} {views} id v u r at l lu same past store births now contents l
   timing = record { timed = live_set (ViewIsTimed (w epoch) (acknowledgements w)) (ViewIsTimed (w epoch + 1) (acknowledgements w)) views id u r.timing.timed (λ j y n e ly h. timed_later h) times };
   lasting = lasting_same views id v u at l same.lasting r.lasting;
   counted = r.counted;
+  concluded = concluded_same views id v u at l (numbers same) r.concluded alike (ap (λ (b : Births). b.nodes) births) (at_least_same v.past.calls u.past.calls (ap (λ (x : Past). x.calls) past));
+  raised = raised;
 }
 
-module _ {P : ℕ} {w : Words} {views : List View} (id : ℕ) (v : View) (r : Rule P w views) (at : get_elem? views id ≡ some v) (l : v.live ≡ true) (space : w epoch + 2 < UNSTAMPED) where
+module _ {P : ℕ} {w : Words} {views : List View} (id : ℕ) (v : View) (r : Rule P w views) (at : get_elem? views id ≡ some v) (l : v.live ≡ true) (most : P ≤ MOST_PASSES) where
+  -- the epoch has room for two more raises
+  pub has_space : w epoch + 2 < UNSTAMPED
+  has_space = raised_space r.raised most (deepest r.shaped)
+
   -- the sights after a raise, where one view is set and the others go on
   sights_raised : (u : View) (now : ObjId → Now) (sealed : Sid → SetKind → ℕ) → ((j : ℕ) (y : View) → j ≢ id → get_elem? views j ≡ some y → y.live ≡ true → (k : ℕ) (p : Pin) → get_elem? y.sight.pins k ≡ some p → p.epoch ≤ w epoch → IsFollowed r.role r.shape (r.cell p.object) (r.now p.object) y.number p → IsFollowed r.role r.shape (r.cell p.object) (now p.object) y.number p)
       → ((s : Sid) (which : SetKind) (n : ℕ) → n ≤ w epoch → IsRelied (watched w) r.sights.sealed s which n → IsRelied (watched w) sealed s which n) → ((j : ℕ) (y : View) → j ≢ id → (f : Firing) → IsFiring (watched w) r.sights.sealed r.sights.firer j f → IsFiring (watched w) sealed r.sights.firer j f)
@@ -113,30 +125,30 @@ module _ {P : ℕ} {w : Words} {views : List View} (id : ℕ) (v : View) (r : Ru
     each = live_set (ViewIsSighted P (w epoch) (values w) r.cell r.shape r.role r.now (watched w) r.log r.sights.floor r.sights.sealed r.sights.firer) (ViewIsSighted P (w epoch + 1) (values w) r.cell r.shape r.role now (watched w) r.log r.sights.floor sealed r.sights.firer) views id u r.sights.each
         (λ j y n e ly h. sighted_raise (go j y n e ly) relied refl (λ f g. firing j y n f (h.firing f g)) (λ o i mine. stamps j y n e ly o i mine ∙ h.stamped o i mine) (λ g f. (g, f, refl, refl)) h) own;
     floors = λ q. (let a = r.sights.floors q in omega arith);
-    few = omega arith;
+    few = (let space = has_space in omega arith);
     states = r.sights.states;
     unsealed = unsealed;
   }
 
-  -- A raise that is not owed.
-  pub raises_free : (counts : Counts) → Rule P (put w epoch (w epoch + 1)) (set views id (record v { time = raised_time v.time (w epoch + 1) (v.time.unowed + 1); counts = counts }))
-  raises_free counts =
-      let u : View = record v { time = raised_time v.time (w epoch + 1) (v.time.unowed + 1); counts = counts } in
+  -- A raise that is not owed: a pass may make few of them.
+  pub raises_free : (counts : Counts) → v.time.unowed < MOST_UNOWED → Rule P (put w epoch (w epoch + 1)) (set views id (record v { time = raised_time v.time (w epoch + 1) v.time.owed (v.time.unowed + 1); counts = counts }))
+  raises_free counts room =
+      let u : View = record v { time = raised_time v.time (w epoch + 1) v.time.owed (v.time.unowed + 1); counts = counts } in
       let h = r.sights.each id v at l in
-      raises_at id v u r at l l (numbers_of v u refl refl refl refl refl refl) refl refl refl r.now r.contents (same_locks views id v u at l l refl (λ j y e ly g f n k lt. refl) r.locks)
+      raises_at id v u r at l l (numbers_of v u refl refl refl refl refl refl) refl refl refl (alike_same refl) (raised_free views id v u at l (numbers (numbers_of v u refl refl refl refl refl refl)) r.histories r.raised refl refl room) r.now r.contents (same_locks views id v u at l l refl (λ j y e ly g f n k lt. refl) r.locks)
       (sights_raised u r.now r.sights.sealed (λ j y n e ly k p f lt t. t) (λ s which n lt t. t) (λ j y n f t. t) (λ j y n e ly o i mine. refl) r.sights.unsealed
       (sighted_raise (λ k p f lt t. t) (λ s which n lt t. t) refl h.firing h.stamped (λ g f. (g, f, refl, refl)) h))
-      (timed_raised (v.time.unowed + 1) (r.timing.timed id v at l))
+      (timed_raised v.time.owed (v.time.unowed + 1) (r.timing.timed id v at l))
 
   -- The raise for a firing: each licence that relies on the set is below the new epoch.
-  pub raises_firing : (s : Sid) (which : SetKind) (counts : Counts) → v.sets.firing ≡ Some (firing_of s which 0) → Rule P (put w epoch (w epoch + 1)) (set views id (record v { time = raised_time v.time (w epoch + 1) v.time.unowed; sets = record v.sets { firing = Some (firing_of s which (w epoch + 1)) }; counts = counts }))
-  raises_firing s which counts owed =
-      let u : View = record v { time = raised_time v.time (w epoch + 1) v.time.unowed; sets = record v.sets { firing = Some (firing_of s which (w epoch + 1)) }; counts = counts } in
+  pub raises_firing : (s : Sid) (which : SetKind) (owed : ℕ) (counts : Counts) → v.sets.firing ≡ Some (firing_of s which 0) → v.time.owed ≡ owed + 1 → Rule P (put w epoch (w epoch + 1)) (set views id (record v { time = raised_time v.time (w epoch + 1) owed v.time.unowed; sets = record v.sets { firing = Some (firing_of s which (w epoch + 1)) }; counts = counts }))
+  raises_firing s which owed counts due owes =
+      let u : View = record v { time = raised_time v.time (w epoch + 1) owed v.time.unowed; sets = record v.sets { firing = Some (firing_of s which (w epoch + 1)) }; counts = counts } in
       let h = r.sights.each id v at l in
-      let fi = h.firing (firing_of s which 0) owed in
+      let fi = h.firing (firing_of s which 0) due in
       let sealed = set_watched r.sights.sealed s which (w epoch + 1) in
       let relied : (t : Sid) (kind : SetKind) (n : ℕ) → n ≤ w epoch → IsRelied (watched w) r.sights.sealed t kind n → IsRelied (watched w) sealed t kind n = λ t kind n lt b. record { unfired = b.unfired; older = each_watched r.sights.sealed s which (w epoch + 1) (λ t kind x. (0 < r.sights.sealed t kind → n < r.sights.sealed t kind) → 0 < x → n < x) (λ a c. omega arith) (λ t kind away a. a) t kind b.older } in
-      raises_at id v u r at l l (numbers_of v u refl refl refl refl refl refl) refl refl refl r.now r.contents (same_locks views id v u at l l refl (λ j y e ly g f n k lt. refl) r.locks)
+      raises_at id v u r at l l (numbers_of v u refl refl refl refl refl refl) refl refl refl (alike_same refl) (raised_owed views id v u at l (numbers (numbers_of v u refl refl refl refl refl refl)) r.histories r.raised refl (λ f e. let one = same_item (firing_of s which 0) f v.sets.firing due e in (firing_of s which (w epoch + 1), refl, ap (λ (x : Firing). x.structure) one, ap (λ (x : Firing). x.which) one)) owes refl) r.now r.contents (same_locks views id v u at l l refl (λ j y e ly g f n k lt. refl) r.locks)
       (sights_raised u r.now sealed (λ j y n e ly k p f lt t. t) relied
       (λ j y n f t. record { state = t.state; since = set_else r.sights.sealed s which (w epoch + 1) f.structure f.which (λ a b. n (sym t.mine ∙ ((λ i. r.sights.firer (a i) (b i)) ∙ fi.mine))) ∙ t.since; mine = t.mine })
       (λ j y n e ly o i mine. refl)
@@ -144,14 +156,14 @@ module _ {P : ℕ} {w : Words} {views : List View} (id : ℕ) (v : View) (r : Ru
       (sighted_raise (λ k p f lt t. t) relied refl
       (λ f g. (let both : Some (firing_of s which (w epoch + 1)) ≡ Some f = g in let one : firing_of s which (w epoch + 1) ≡ f = cc in subst (IsFiring (watched w) sealed r.sights.firer id) one record { state = fi.state; since = set_here r.sights.sealed s which (w epoch + 1); mine = fi.mine }))
       h.stamped (λ g f. (g, f, refl, refl)) h))
-      (timed_raised v.time.unowed (r.timing.timed id v at l))
+      (timed_raised owed v.time.unowed (r.timing.timed id v at l))
 
-  -- The raise that stamps an own offset which was given back.
-  pub raises_stamp : (o : ObjId) (j : ℕ) (counts : Counts) → o.pass ≡ v.number → 0 < stamp_in v.quarantine o j
-      → Rule P (put w epoch (w epoch + 1)) (set views id (record v { time = raised_time v.time (w epoch + 1) v.time.unowed; quarantine = record { object = o; offset = j; stamp = w epoch + 1 } ∷ v.quarantine; counts = counts }))
-  raises_stamp o j counts own given =
+  -- The raise that stamps an own offset which was given back and has no stamp yet.
+  pub raises_stamp : (o : ObjId) (j owed : ℕ) (counts : Counts) → o.pass ≡ v.number → stamp_in v.quarantine o j ≡ UNSTAMPED → v.time.owed ≡ owed + 1
+      → Rule P (put w epoch (w epoch + 1)) (set views id (record v { time = raised_time v.time (w epoch + 1) owed v.time.unowed; quarantine = record { object = o; offset = j; stamp = w epoch + 1 } ∷ v.quarantine; counts = counts }))
+  raises_stamp o j owed counts own given owes =
       let e = w epoch + 1 in
-      let u : View = record v { time = raised_time v.time e v.time.unowed; quarantine = record { object = o; offset = j; stamp = e } ∷ v.quarantine; counts = counts } in
+      let u : View = record v { time = raised_time v.time e owed v.time.unowed; quarantine = record { object = o; offset = j; stamp = e } ∷ v.quarantine; counts = counts } in
       let h = r.sights.each id v at l in
       let was : (r.now o).stamps j ≡ stamp_in v.quarantine o j = h.stamped o j own in
       let now_o : Now = record (r.now o) { stamps = set_number (r.now o).stamps j e } in
@@ -179,22 +191,22 @@ module _ {P : ℕ} {w : Words} {views : List View} (id : ℕ) (v : View) (r : Ru
       let contents = ⊎_elim
       (λ (f : r.cell o ≡ None). absurd (let un = unborn_state r.contents o f in let z : (r.now o).stamps j ≡ 0 = ap (λ (x : Now). x.stamps j) un in omega (arith, z, was)))
       (λ (f : (c : Cell) × (r.cell o ≡ Some c)). now_contents r.contents o f.0 now_o f.1 (standing_now refl refl refl refl back (standing r.contents o f.0 f.1))) (option_cases (r.cell o)) in
-      raises_at id v u r at l l (numbers_of v u refl refl refl refl refl refl) refl refl refl now contents
-      (now_locks views id v u at l l r.locks (λ j y n e ly g f. let s = same g.object in (s.0, s.1, s.3))
-      (λ g f. let t = r.locks.held id v at l g f in let s = same g.object in record { cell = t.cell; bit = t.bit; found = t.found; holder_is = t.holder_is; settled = s.0 ∙ t.settled; sealed = s.1 ∙ t.sealed; room = s.3 ∙ t.room; content = t.content; size = t.size; block = t.block }) (λ g f. (g, f, refl)))
+      raises_at id v u r at l l (numbers_of v u refl refl refl refl refl refl) refl refl refl (alike_same refl) (raised_owed views id v u at l (numbers (numbers_of v u refl refl refl refl refl refl)) r.histories r.raised refl (stays_firing refl) owes refl) now contents
+      (now_locks views id v u at l l r.locks (λ j y n e ly g f. let s = same g.object in (s.0, s.1, s.3, s.2))
+      (λ g f. let t = r.locks.held id v at l g f in let s = same g.object in record { cell = t.cell; bit = t.bit; found = subst (KeepsKind g.cell.kind g.found g.opened) (sym s.2) t.found; holder_is = t.holder_is; settled = s.0 ∙ t.settled; sealed = s.1 ∙ t.sealed; room = s.3 ∙ t.room; content = t.content; size = t.size; block = t.block }) (λ g f. (g, f, refl)))
       (sights_raised u now r.sights.sealed (λ j y n e ly k p f lt t. go y.number p lt t) (λ s which n lt t. t) (λ j y n f t. t)
       (λ i y n f ly q k mine. each_object r.now o now_o (λ q x. q.pass ≡ y.number → x.stamps k ≡ (r.now q).stamps k) (λ a. absurd (apart r id i v y n at l f ly (sym own ∙ a))) (λ q d a. refl) q mine) r.sights.unsealed
       (sighted_raise (λ k p f lt t. go v.number p lt t) (λ s which n lt t. t) refl h.firing (stamped_more id v r at l o j e now_o refl) (λ g f. (g, f, refl, refl)) h))
-      (timed_raised v.time.unowed (r.timing.timed id v at l))
+      (timed_raised owed v.time.unowed (r.timing.timed id v at l))
 
   -- The raise for an object that is opening: each pin on it is below the new epoch.
-  pub raises_opening : (g : Lock) (counts : Counts) → v.lock ≡ Some g → g.cell.kind ≡ Opening
-      → Rule P (put w epoch (w epoch + 1)) (set views id (record v { time = raised_time v.time (w epoch + 1) v.time.unowed; lock = Some (record g { since = w epoch + 1 }); counts = counts }))
-  raises_opening g counts held kind =
+  pub raises_opening : (g : Lock) (owed : ℕ) (counts : Counts) → v.lock ≡ Some g → g.cell.kind ≡ Opening → g.since ≡ 0 → v.time.owed ≡ owed + 1
+      → Rule P (put w epoch (w epoch + 1)) (set views id (record v { time = raised_time v.time (w epoch + 1) owed v.time.unowed; lock = Some (record g { since = w epoch + 1 }); counts = counts }))
+  raises_opening g owed counts held kind fresh owes =
       let e = w epoch + 1 in
       let g' : Lock = record g { since = e } in
       let o = g.object in
-      let u : View = record v { time = raised_time v.time e v.time.unowed; lock = Some g'; counts = counts } in
+      let u : View = record v { time = raised_time v.time e owed v.time.unowed; lock = Some g'; counts = counts } in
       let h = r.sights.each id v at l in
       let lk = r.locks.held id v at l g held in
       let now_o : Now = record (r.now o) { sealed = e } in
@@ -217,11 +229,14 @@ module _ {P : ℕ} {w : Words} {views : List View} (id : ℕ) (v : View) (r : Ru
           current = λ z y a b. subst (λ (x : Bool). Rattle.jo_rule.specs.Roles.frame r.role x p.object t.current.address y ≡ Some a) (sym s.1) (f.current z y a b);
         };
       } in
-      raises_at id v u r at l l (numbers_of v u refl refl refl refl refl refl) refl refl refl now (now_contents r.contents o g.cell now_o lk.cell (standing_opening kind refl (λ j. refl) (standing r.contents o g.cell lk.cell)))
-      (now_locks views id v u at l l r.locks (λ j y n f ly q k. let far = one_holder views id v u at l l r.locks j y n f ly g q held k in let s = others q.object far in (ap (λ (x : Now). x.settled) s, ap (λ (x : Now). x.sealed) s, ap (λ (x : Now). x.room) s))
+      raises_at id v u r at l l (numbers_of v u refl refl refl refl refl refl) refl refl refl (
+        (λ q cause f e. let one = same_item g q v.lock held f in (g', refl, ap (λ (x : Lock). x.object) one, ap (λ (x : Lock). x.opened) one ∙ e, ap (λ (x : Lock). x.cell.kind) one)),
+        (λ q cause f e. (let both : Some g' ≡ Some q = f in let one : g' ≡ q = cc in (g, held, ap (λ (x : Lock). x.object) one, ap (λ (x : Lock). x.opened) one ∙ e, ap (λ (x : Lock). x.cell.kind) one))),
+      ) (raised_owed views id v u at l (numbers (numbers_of v u refl refl refl refl refl refl)) r.histories r.raised refl (stays_firing refl) owes refl) now (now_contents r.contents o g.cell now_o lk.cell (standing_opening kind refl (λ j. refl) (standing r.contents o g.cell lk.cell)))
+      (now_locks views id v u at l l r.locks (λ j y n f ly q k. let far = one_holder views id v u at l l r.locks j y n f ly g q held k in let s = others q.object far in (ap (λ (x : Now). x.settled) s, ap (λ (x : Now). x.sealed) s, ap (λ (x : Now). x.room) s, ap (λ (x : Now). x.segmented) s))
       (λ q f. subst (IsHeld (stored w) r.cell now (after P r.log) r.locks.holder id) (let both : Some g' ≡ Some q = f in let one : g' ≡ q = cc in one)
-      (let here : now o ≡ now_o = object_here r.now o now_o in record { cell = lk.cell; bit = lk.bit; found = lk.found; holder_is = lk.holder_is; settled = ap (λ (x : Now). x.settled) here ∙ lk.settled; sealed = ap (λ (x : Now). x.sealed) here; room = ap (λ (x : Now). x.room) here ∙ lk.room; content = lk.content; size = lk.size; block = lk.block }))
+      (let here : now o ≡ now_o = object_here r.now o now_o in record { cell = lk.cell; bit = lk.bit; found = subst (KeepsKind g.cell.kind g.found g.opened) (sym (ap (λ (x : Now). x.segmented) here)) lk.found; holder_is = lk.holder_is; settled = ap (λ (x : Now). x.settled) here ∙ lk.settled; sealed = ap (λ (x : Now). x.sealed) here; room = ap (λ (x : Now). x.room) here ∙ lk.room; content = lk.content; size = lk.size; block = lk.block }))
       (λ q f. (g', refl, ap (λ (x : Lock). x.object) (same_item g q v.lock held f))))
       (sights_raised u now r.sights.sealed (λ j y n f ly k p m lt t. go y.number p lt t) (λ s which n lt t. t) (λ j y n f t. t) (λ j y n f ly q i mine. stamps q i) r.sights.unsealed
       (sighted_raise (λ k p f lt t. go v.number p lt t) (λ s which n lt t. t) refl h.firing (λ q i mine. stamps q i ∙ h.stamped q i mine) (λ q f. let one = same_item g q v.lock held f in (g', refl, ap (λ (x : Lock). x.object) one, ap (λ (x : Lock). x.cell) one)) h))
-      (timed_raised v.time.unowed (r.timing.timed id v at l))
+      (timed_raised owed v.time.unowed (r.timing.timed id v at l))

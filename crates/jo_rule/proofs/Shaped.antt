@@ -1,6 +1,7 @@
 -- Nodes and links: a structure is born below another, and is linked there. No shape changes that was there.
-use Rattle.std.proofs.Common.{◌≡◌, ◌≢◌, ◌⊎◌, ◌<◌, ℕ, true, refl, sym, ap, ◌∙◌, subst, inl, inr, ⊎_elim, arith, Option, Some, None}
+use Rattle.std.proofs.Common.{◌≡◌, ◌≢◌, ◌⊎◌, ◌<◌, ◌≤◌, ℕ, true, refl, sym, ap, ◌∙◌, subst, inl, inr, ⊎_elim, arith, Option, Some, None}
 use Rattle.std.proofs.lemmas.Bool.{cases_eq, eq-eqb, ne_eqb, both_ways}
+use Rattle.jo_value.specs.declared.capacities.TheConstants.{MOST_DEPTH}
 use Rattle.jo_value.specs.declared.value.Sid.{Sid}
 use Rattle.jo_value.specs.declared.words.node.Node.{Node}
 use Rattle.jo_value.specs.Words.{node_bits}
@@ -120,3 +121,13 @@ module _ {passes : ℕ} {nodes first_children siblings : Sid → ℕ} {node : Si
   -- the node word of a structure that is born tells its parent and what it changes
   pub made_below : (s : Sid) (n : Node) → node s ≡ Some n → 0 < n.depth → IsMade siblings node shape s n
   made_below s n e deep = ⊎_elim (λ (k : IsRoot passes s n (shape s)). (let zero_depth : n.depth ≡ 0 = ap (λ (x : Node). x.depth) k.3 in absurd (omega arith))) (λ (k : IsMade siblings node shape s n). k) (r.made s n e)
+
+-- no structure is deeper than may be
+pub deepest : {passes : ℕ} {nodes first_children siblings : Sid → ℕ} {node : Sid → Option Node} {shape : Sid → Shape} → Shaped passes nodes first_children siblings node shape → (s : Sid) → (shape s).depth ≤ MOST_DEPTH
+deepest {passes} {nodes} {first_children} {siblings} {node} {shape} r s = deepest_by (node s) refl
+  where
+    deepest_by : (x : Option Node) → node s ≡ x → (shape s).depth ≤ MOST_DEPTH
+    deepest_by None e = let d = ap (λ (z : Shape). z.depth) (r.unborn s e) in omega (arith, d)
+    deepest_by (Some n) e = ⊎_elim
+        (λ (k : IsRoot passes s n (shape s)). let d = ap (λ (z : Shape). z.depth) k.4 in omega (arith, d))
+        (λ (k : IsMade siblings node shape s n). let d = ap (λ (z : Shape). z.depth) k.is in let c = k.child in let m = c.deepest in omega (arith, d)) (r.made s n e)

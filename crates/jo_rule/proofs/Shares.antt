@@ -17,6 +17,7 @@ use Rattle.jo_value.specs.Words.{IsCell, cell_bits}
 use Rattle.jo_model.specs.Objects.{Object}
 use Rattle.jo_model.specs.Heaps.{Heap, object_of}
 use Rattle.jo_model.specs.Logs.{Log, after}
+use Rattle.jo_rule.proofs.Histories.{numbers}
 use Rattle.jo_rule.specs.declared.counts.Counts.{Counts}
 use Rattle.jo_rule.specs.declared.event.Event.{Event}
 use Rattle.jo_rule.specs.declared.event.Event.TheVariants.{Nothing, Refuse}
@@ -36,6 +37,8 @@ use Rattle.jo_rule.specs.Events.{recorded, past_after, object_after_event}
 use Rattle.jo_rule.specs.Rule.{Rule}
 use Rattle.jo_rule.specs.Steps.{no_sight, pin_of, tried}
 use Rattle.jo_rule.specs.Sights.{watched, Sees, Follows, IsFollowed, HasStayed, Owning, Licensed}
+use Rattle.jo_rule.proofs.Concluded.{alike_same, alike_unopened, unopened_none, unopened_one, follows_unopened, at_least_same, closed_keyed, concluded_same, concluded_event}
+use Rattle.jo_rule.proofs.Raised.{as_many, many_deeper, raised_cell}
 use Rattle.jo_rule.proofs.Lists.{same_item, no_item, no_each, set_there}
 use Rattle.jo_rule.proofs.Sets.{object_here, object_else}
 use Rattle.jo_rule.proofs.Shapes.{option_cases}
@@ -128,7 +131,7 @@ module _ {P : ℕ} {w : Words} {views : List View} (id : ℕ) (v : View) (r : Ru
       (λ h f. subst (IsHeld (stored w) cells' now' (after P r.log) holder id) (let both : Some g ≡ Some h = f in let one : g ≡ h = cc in one) record {
         cell = here;
         bit = refl;
-        found = λ z. refl;
+        found = record { unopened = λ z. refl; turned = λ cause z. (let no : None ≡ Some cause = z in absurd cc); keyed = λ z. keyed; block = λ z. ap (λ (x : Now). x.segmented) now_here ∙ k.0.segmented_is };
         holder_is = object_here r.locks.holder o id;
         settled = ap (λ (x : Now). x.settled) now_here ∙ k.0.settled;
         sealed = ap (λ (x : Now). x.sealed) now_here ∙ k.0.sealed;
@@ -157,7 +160,7 @@ module _ {P : ℕ} {w : Words} {views : List View} (id : ℕ) (v : View) (r : Ru
         stamps = λ j y n e ly i b. refl;
       }
       record {
-        sees = cons_each (λ (q : Pin). is_keyed q.cell.kind ≡ true → Sees P (values w) (r.shape q.cell.sid) r.role r.log q) p [] (λ key. sees_now P (values w) (r.shape c.sid) r.role r.log o c' (w epoch) st.structure st.root (r.contents.words o) block_c keys_c) (no_each (λ k q. is_keyed q.cell.kind ≡ true → Sees P (values w) (r.shape q.cell.sid) r.role r.log q));
+        sees = cons_each (λ (q : Pin). is_keyed q.cell.kind ≡ true → Sees P (values w) (r.shape q.cell.sid) r.role r.log q) p [] (λ key. sees_now P (values w) (r.shape c.sid) r.role r.log o c' (w epoch) st.structure st.root (r.contents.words o) r.contents.valid block_c keys_c) (no_each (λ k q. is_keyed q.cell.kind ≡ true → Sees P (values w) (r.shape q.cell.sid) r.role r.log q));
         follows = cons_each (λ (q : Pin). is_keyed q.cell.kind ≡ true → IsFollowed r.role r.shape (cells' q.object) (now' q.object) v.number q) p []
             (λ key. record {
               current = c';
@@ -182,6 +185,8 @@ module _ {P : ℕ} {w : Words} {views : List View} (id : ℕ) (v : View) (r : Ru
         cleared = h.cleared;
       }
       r.so (born_so_cell r.born_so o c' c there refl) (λ f. r.marked.shared o c there f) (counts_same r.counted o c c' there (keyed_no_dictionary c.kind keyed) refl)
+      (concluded_same views id v u at l (numbers same) r.concluded (alike_unopened (unopened_none none_held) (unopened_one g refl refl)) refl (at_least_same v.past.calls v.past.calls refl))
+      (raised_cell views id v u at l (numbers same) r.histories r.raised refl refl o (Some c) c' there (as_many r.shape c c' refl refl))
       record {
         out = λ e. absurd (both_ways v.time.out inside e);
         inside = tm.inside;
@@ -236,7 +241,9 @@ module _ {P : ℕ} {w : Words} {views : List View} (id : ℕ) (v : View) (r : Ru
         owning = λ j y n e ly m q f same_o t. held_owning g c' y.number q held (inl (refl, refl)) t;
         stamps = λ j y n e ly i b. refl;
       }
-      (sighted_dropped (r.sights.each id v at l) v.quarantine (stamps_kept (r.sights.each id v at l) o now (λ i. refl))) r.so (born_so_cell r.born_so o c' c lk.cell refl) (λ f. r.marked.shared o c lk.cell f) (counts_same r.counted o c c' lk.cell (keyed_no_dictionary c.kind keyed) refl) (timed_dropped (r.timing.timed id v at l))
+      (sighted_dropped (r.sights.each id v at l) v.quarantine (stamps_kept (r.sights.each id v at l) o now (λ i. refl))) r.so (born_so_cell r.born_so o c' c lk.cell refl) (λ f. r.marked.shared o c lk.cell f) (counts_same r.counted o c c' lk.cell (keyed_no_dictionary c.kind keyed) refl)
+      (concluded_same views id v u at l (numbers same) r.concluded (alike_unopened (closed_keyed id v r.concluded at l g held keyed) (unopened_none refl)) refl (at_least_same v.past.calls v.past.calls refl))
+      (raised_cell views id v u at l (numbers same) r.histories r.raised refl refl o (Some c) c' lk.cell (as_many r.shape c c' refl refl)) (timed_dropped (r.timing.timed id v at l))
 
   -- A key is added under the lock, in the old block or in a new one that keeps each place. The transition set is known to be fired.
   pub releases_changed : (g : Lock) (event : Event) (c : Cell) (role : ℕ → Role) (own : Storage) (key : Key) (y : Spot) (a : Location) (x fi : ℕ) (counts : Counts) → v.lock ≡ Some g → is_keyed g.cell.kind ≡ true → MayAdd P v event g.object (r.shape g.cell.sid) key x → get_elem? v.sets.fired fi ≡ some (g.cell.sid, Transition)
@@ -295,7 +302,9 @@ module _ {P : ℕ} {w : Words} {views : List View} (id : ℕ) (v : View) (r : Ru
       }
       (sighted_dropped h v.quarantine (stamps_kept h o now (λ i. refl))) r.so (born_so_event P v.number event r.log (born_so_cell r.born_so o c d lk.cell (keyed' ∙ sym keyed)))
       (λ f. subst (λ (p : ℕ). HasForeignMark p r.log) st.root (r.marked.disturbed d.sid Transition (λ e. omega (arith, e, fired))))
-      (let n = add.counts (object_of (after P r.log) o) k.1.keys.names in let dp = wide.depth in let hi = wide.high in counts_go r.counted v.number event o d c (name_count key) 0 add.on lk.cell (keyed_no_dictionary d.kind keyed) n.0 n.1 (omega (arith, dp)) hi) (timed_dropped (r.timing.timed id v at l))
+      (let n = add.counts (object_of (after P r.log) o) k.1.keys.names in let dp = wide.depth in let hi = wide.high in counts_go r.counted v.number event o d c (name_count key) 0 add.on lk.cell (keyed_no_dictionary d.kind keyed) n.0 n.1 (omega (arith, dp)) hi)
+      (concluded_event views id v u at l (numbers same) r.concluded r.histories event (follows_unopened P r.log v.number event (closed_keyed id v r.concluded at l g held keyed)) (unopened_none refl) refl refl)
+      (raised_cell views id v u at l (numbers same) r.histories r.raised refl refl o (Some d) c lk.cell (let dp = wide.depth in let m = many_deeper r.shape d c 0 keyed (omega arith) in omega arith)) (timed_dropped (r.timing.timed id v at l))
 
   -- The bit for writes of others is set by an exchange. The write set of the cell's structure is known to be fired.
   pub shares_cell : (o : ObjId) (c : Cell) (fi : ℕ) (counts : Counts) → r.cell o ≡ Some c → is_keyed c.kind ≡ true → c.locked ≡ false → get_elem? v.sets.fired fi ≡ some (c.sid, Write)
@@ -327,4 +336,6 @@ module _ {P : ℕ} {w : Words} {views : List View} (id : ℕ) (v : View) (r : Ru
         stamps = λ j y n e ly i b. refl;
       }
       (sighted_dropped h v.quarantine (stamps_kept h o now (λ i. refl))) r.so (born_so_cell r.born_so o c' c there refl)
-      (λ f. subst (λ (p : ℕ). HasForeignMark p r.log) st.root (r.marked.disturbed c.sid Write (λ e. omega (arith, e, fired)))) (counts_same r.counted o c c' there (keyed_no_dictionary c.kind keyed) refl) (timed_dropped (r.timing.timed id v at l))
+      (λ f. subst (λ (p : ℕ). HasForeignMark p r.log) st.root (r.marked.disturbed c.sid Write (λ e. omega (arith, e, fired)))) (counts_same r.counted o c c' there (keyed_no_dictionary c.kind keyed) refl)
+      (concluded_same views id v u at l (numbers same) r.concluded (alike_same refl) refl (at_least_same v.past.calls v.past.calls refl))
+      (raised_cell views id v u at l (numbers same) r.histories r.raised refl refl o (Some c) c' there (as_many r.shape c c' refl refl)) (timed_dropped (r.timing.timed id v at l))

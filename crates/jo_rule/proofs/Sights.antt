@@ -30,6 +30,8 @@ use Rattle.jo_rule.specs.Shapes.{Shape}
 use Rattle.jo_rule.specs.Spots.{Spot, offset, element, Location, spot_of}
 use Rattle.jo_rule.specs.Roles.{Role, value, Grows, role_at, frame, IsBlockOf}
 use Rattle.jo_rule.specs.Dictionaries.{slot_in}
+use Rattle.jo_model.specs.Valid.{IsValidObject, IsValidHeap}
+use Rattle.jo_model.proofs.ValidEdits.{object_valid}
 use Rattle.jo_rule.specs.Contents.{Now, is_keyed, is_flat, is_segmented, HasKeys, HasWords}
 use Rattle.jo_rule.specs.Views.{View, Pin, Licence, Sight, Sets, Quarantined, Since, Lock, KnownWord}
 use Rattle.jo_rule.specs.Histories.{Begins}
@@ -86,15 +88,17 @@ valued_later {P} {log} {log'} {o} {key} {n} {word} c h =
       within = omega arith;
       is = h.is ∙ ap (λ (x : Heap). slot_bits (slot_in (property (object_of x o) key))) (sym (heap_kept P log log' h.at c h.within));
       slot = subst (λ (x : Heap). IsSlot (slot_in (property (object_of x o) key))) (sym (heap_kept P log log' h.at c h.within)) h.slot;
+      valid = subst (λ (x : Heap). IsValidObject x (object_of x o)) (sym (heap_kept P log log' h.at c h.within)) h.valid;
     }
 
-pub valued_now : (P : ℕ) (log : Log Mark) (o : ObjId) (key : Key) (n word : ℕ) → n ≤ length log → HasWords (object_of (after P log) o) → word ≡ slot_bits (slot_in (property (object_of (after P log) o) key)) → Valued P log o key n word
-valued_now P log o key n word le words is = record {
+pub valued_now : (P : ℕ) (log : Log Mark) (o : ObjId) (key : Key) (n word : ℕ) → n ≤ length log → HasWords (object_of (after P log) o) → IsValidHeap (after P log) → word ≡ slot_bits (slot_in (property (object_of (after P log) o) key)) → Valued P log o key n word
+valued_now P log o key n word le words valid is = record {
   at = length log;
   later = le;
   within = omega arith;
   is = is ∙ ap (λ (x : Heap). slot_bits (slot_in (property (object_of x o) key))) (sym (heap_now P log));
   slot = subst (λ (x : Heap). IsSlot (slot_in (property (object_of x o) key))) (sym (heap_now P log)) (property_word (object_of (after P log) o) key words);
+  valid = subst (λ (x : Heap). IsValidObject x (object_of x o)) (sym (heap_now P log)) (object_valid (after P log) o valid);
 }
 
 -- ---- pins
@@ -117,9 +121,9 @@ module _ {P : ℕ} {v : Location → ℕ} {shape : Shape} {role : ℕ → Role} 
       }
 
   -- a word is stored: where it is a place of the pin, it is the key's value after the new log
-  pub sees_store : {v' : Location → ℕ} {log' : Log Mark} (q : Location) → HasWords (object_of (after P log') p.object) → ((a : Location) → (a ≡ q) ⊎ (a ≢ q)) → Continues log log' → ((a : Location) → a ≢ q → v' a ≡ v a)
+  pub sees_store : {v' : Location → ℕ} {log' : Log Mark} (q : Location) → HasWords (object_of (after P log') p.object) → IsValidHeap (after P log') → ((a : Location) → (a ≡ q) ⊎ (a ≢ q)) → Continues log log' → ((a : Location) → a ≢ q → v' a ≡ v a)
       → ((key : Key) (y : Spot) → spot_of shape key ≡ Some y → frame role (is_segmented p.cell.kind) p.object p.cell.address y ≡ Some q → v' q ≡ slot_bits (slot_in (property (object_of (after P log') p.object) key))) → Sees P v' shape role log' p
-  sees_store {v'} {log'} q words cases c else_ hit =
+  sees_store {v'} {log'} q words valid cases c else_ hit =
       let past = t.past in
       let longer = c.longer in
       let kept = heap_kept P log log' p.place c t.past in record {
@@ -130,7 +134,7 @@ module _ {P : ℕ} {v : Location → ℕ} {shape : Shape} {role : ℕ → Role} 
         past = omega arith;
         names = t.names ∙ ap (λ (x : Heap). map (λ z. z.0) (object_of x p.object).names) (sym kept);
         values = λ key y a e f. ⊎_elim
-            (λ (d : a ≡ q). valued_now P log' p.object key p.place (v' a) (omega arith) words (ap v' d ∙ hit key y e (f ∙ ap (λ (z : Location). Some z) d)))
+            (λ (d : a ≡ q). valued_now P log' p.object key p.place (v' a) (omega arith) words valid (ap v' d ∙ hit key y e (f ∙ ap (λ (z : Location). Some z) d)))
             (λ (d : a ≢ q). subst (Valued P log' p.object key p.place) (sym (else_ a d)) (valued_later c (t.values key y a e f))) (cases a);
         beyond = λ i f. ap (λ (x : Heap). property (object_of x p.object) (Index i)) kept ∙ t.beyond i f;
       }
@@ -140,16 +144,16 @@ module _ {P : ℕ} {v : Location → ℕ} {shape : Shape} {role : ℕ → Role} 
   no_place q none_ y f = none_ p.object y (t.block.mine y q f)
 
 -- a pin of the current cell
-pub sees_now : (P : ℕ) (v : Location → ℕ) (shape : Shape) (role : ℕ → Role) (log : Log Mark) (o : ObjId) (c : Cell) (e : ℕ) → shape.born ≡ true → shape.root ≡ o.pass → HasWords (object_of (after P log) o) → IsBlockOf role (is_segmented c.kind) o c.address → HasKeys v role (is_segmented c.kind) shape o c.address (object_of (after P log) o)
+pub sees_now : (P : ℕ) (v : Location → ℕ) (shape : Shape) (role : ℕ → Role) (log : Log Mark) (o : ObjId) (c : Cell) (e : ℕ) → shape.born ≡ true → shape.root ≡ o.pass → HasWords (object_of (after P log) o) → IsValidHeap (after P log) → IsBlockOf role (is_segmented c.kind) o c.address → HasKeys v role (is_segmented c.kind) shape o c.address (object_of (after P log) o)
     → Sees P v shape role log (record { object = o; cell = c; place = length log; epoch = e })
-sees_now P v shape role log o c e born root words block keys = record {
+sees_now P v shape role log o c e born root words valid block keys = record {
   structure = born;
   root = root;
   block = block;
   inside = keys.inside;
   past = omega arith;
   names = keys.names ∙ ap (λ (x : Heap). map (λ z. z.0) (object_of x o).names) (sym (heap_now P log));
-  values = λ key y a f g. valued_now P log o key (length log) (v a) (omega arith) words (keys.values key y a f g);
+  values = λ key y a f g. valued_now P log o key (length log) (v a) (omega arith) words valid (keys.values key y a f g);
   beyond = λ i f. ap (λ (x : Heap). property (object_of x o) (Index i)) (heap_now P log) ∙ keys.beyond i f;
 }
 
@@ -207,10 +211,10 @@ right_shapes {shape} {shape'} {licences} {lock} {fired} {o} {y} pins cell h = �
 module _ {P E : ℕ} {v : Location → ℕ} {cells : ObjId → Option Cell} {shape : Sid → Shape} {role : ℕ → Role} {now : ObjId → Now} {sets : Sid → SetKind → ℕ} {log : Log Mark} {floor : ℕ → ℕ} {sealed firer : Sid → SetKind → ℕ} {seat number : ℕ} {sight : Sight} {known : Sets} {quarantine : List Quarantined} {clear : List Since} {lock : Option Lock}
     (h : IsSighted P E v cells shape role now sets log floor sealed firer seat number sight known quarantine clear lock) where
   -- a word is stored that is no value, and the log may grow by what changes no object
-  pub sighted_store : {v' : Location → ℕ} (q : Location) → ((o : ObjId) → HasWords (object_of (after P log) o)) → ((a : Location) → (a ≡ q) ⊎ (a ≢ q)) → ((a : Location) → a ≢ q → v' a ≡ v a) → ((o : ObjId) (y : Spot) → role_at role q ≢ value o y)
+  pub sighted_store : {v' : Location → ℕ} (q : Location) → ((o : ObjId) → HasWords (object_of (after P log) o)) → IsValidHeap (after P log) → ((a : Location) → (a ≡ q) ⊎ (a ≢ q)) → ((a : Location) → a ≢ q → v' a ≡ v a) → ((o : ObjId) (y : Spot) → role_at role q ≢ value o y)
       → IsSighted P E v' cells shape role now sets log floor sealed firer seat number sight known quarantine clear lock
-  sighted_store {v'} q words cases else_ none_ = record {
-    sees = λ k p e key. sees_store (h.sees k p e key) q (words p.object) cases (stays log) else_ (λ key' y f g. absurd (no_place (h.sees k p e key) q none_ y g));
+  sighted_store {v'} q words valid cases else_ none_ = record {
+    sees = λ k p e key. sees_store (h.sees k p e key) q (words p.object) valid cases (stays log) else_ (λ key' y f g. absurd (no_place (h.sees k p e key) q none_ y g));
     follows = h.follows;
     owning = h.owning;
     timed = h.timed;
@@ -232,12 +236,12 @@ module _ {P E : ℕ} {v : Location → ℕ} {cells : ObjId → Option Cell} {sha
   }
 
   -- a value is stored, and the log may grow: each pin that has the place sees the new value there, and these words are known
-  pub sighted_put : {v' : Location → ℕ} {log' : Log Mark} (known' : List KnownWord) (q : Location) → ((o : ObjId) → HasWords (object_of (after P log') o)) → ((a : Location) → (a ≡ q) ⊎ (a ≢ q)) → Continues log log' → ((a : Location) → a ≢ q → v' a ≡ v a)
+  pub sighted_put : {v' : Location → ℕ} {log' : Log Mark} (known' : List KnownWord) (q : Location) → ((o : ObjId) → HasWords (object_of (after P log') o)) → IsValidHeap (after P log') → ((a : Location) → (a ≡ q) ⊎ (a ≢ q)) → Continues log log' → ((a : Location) → a ≢ q → v' a ≡ v a)
       → ((k : ℕ) (p : Pin) → get_elem? sight.pins k ≡ some p → is_keyed p.cell.kind ≡ true → (key : Key) (y : Spot) → spot_of (shape p.cell.sid) key ≡ Some y → frame role (is_segmented p.cell.kind) p.object p.cell.address y ≡ Some q → v' q ≡ slot_bits (slot_in (property (object_of (after P log') p.object) key)))
       → ((name : WordName) (word : ℕ) → told known' name ≡ Some word → IsKnown v' shape role sight.licences lock known.fired name word)
       → IsSighted P E v' cells shape role now sets log' floor sealed firer seat number (record sight { known = known' }) known quarantine clear lock
-  sighted_put {v'} {log'} known' q words cases more else_ hit knows' = record {
-    sees = λ k p e key. sees_store (h.sees k p e key) q (words p.object) cases more else_ (hit k p e key);
+  sighted_put {v'} {log'} known' q words valid cases more else_ hit knows' = record {
+    sees = λ k p e key. sees_store (h.sees k p e key) q (words p.object) valid cases more else_ (hit k p e key);
     follows = h.follows;
     owning = h.owning;
     timed = h.timed;

@@ -1,11 +1,11 @@
 -- A pass is made, and a pass is joined: the rule is kept.
-use Rattle.std.proofs.Common.{◌≡◌, ◌≢◌, ◌+◌, ◌<◌, ℕ, true, List, [], ◌∷◌, ◌++◌, refl, sym, ap, ◌∙◌, arith, length, set, length-set, Some, None}
+use Rattle.std.proofs.Common.{◌≡◌, ◌≢◌, ◌+◌, ◌<◌, ℕ, true, false, List, [], ◌∷◌, ◌++◌, refl, sym, ap, ◌∙◌, arith, length, set, length-set, Some, None}
 use mathlib.Core.Option.{some}
 use lib.ListN.{get_elem?}
 use Rattle.jo_model.specs.Logs.{after}
 use Rattle.jo_model.specs.Heaps.{objects_of}
 use Rattle.jo_rule.specs.Names.{epoch}
-use Rattle.jo_rule.specs.Areas.{Words, acknowledgements, nodes, stored, set_number}
+use Rattle.jo_rule.specs.Areas.{Words, acknowledgements, nodes, siblings, stored, set_number}
 use Rattle.jo_rule.specs.Spots.{values}
 use Rattle.jo_rule.specs.Contents.{Now}
 use Rattle.jo_rule.specs.Sights.{watched, ViewIsSighted}
@@ -21,7 +21,9 @@ use Rattle.jo_rule.specs.Histories.{home_at}
 use Rattle.jo_rule.specs.Owned.{StorageIsOwn, ObjectsAreOwn, StructuresAreOwn}
 use Rattle.jo_rule.specs.Locks.{HoldsItsLock}
 use Rattle.jo_rule.specs.Rule.{Rule}
-use Rattle.jo_rule.specs.Steps.{split_left, split_right, joined, spent_view}
+use Rattle.jo_rule.specs.Steps.{MayBeJoined, split_left, split_right, joined, spent_view}
+use Rattle.jo_rule.proofs.Concluded.{concluded_split, concluded_joined}
+use Rattle.jo_rule.proofs.Raised.{raised_split, raised_joined}
 use Rattle.jo_rule.proofs.Lists.{at_longer, set_else, one_there, live_same, live_more, live_joined, no_item}
 use Rattle.jo_rule.proofs.Locks.{holds_set}
 use Rattle.jo_rule.proofs.Passes.{split_placements, split_histories, join_placements, join_histories, home_joined}
@@ -38,10 +40,10 @@ module _ {P : ℕ} {w : Words} {views : List View} (id : ℕ) (v : View) (r : Ru
       let heap = after P r.log in
       let S = StorageIsOwn (stored w) r.role in
       let O = ObjectsAreOwn heap in
-      let T = StructuresAreOwn (nodes w) in
+      let T = StructuresAreOwn (nodes w) (siblings w) in
       let G = HoldsItsLock (stored w) r.cell r.now heap r.locks.holder in
       let V = ViewIsSighted P (w epoch) (values w) r.cell r.shape r.role r.now (watched w) r.log r.sights.floor r.sights.sealed r.sights.firer in
-      let K = KnowsLasting r.node r.role in
+      let K = KnowsLasting r.node (siblings w) r.role in
       let W = ViewIsTimed (w epoch) (acknowledgements w) in
       let A = SaysSo r.allowed.flat in
       let m = r.unmade in record {
@@ -67,7 +69,8 @@ module _ {P : ℕ} {w : Words} {views : List View} (id : ℕ) (v : View) (r : Ru
         structures = record {
           roots = r.structures.roots;
           own = live_more T (set views id a) b n long (live_same T views id a r.structures.own (r.structures.own id v at l))
-              (λ _. record { root = omega arith; few = omega arith; unborn = λ k le lt. m.structures v.made k (omega arith) room (omega arith) lt });
+              (λ _. record { root = omega arith; few = omega arith; unborn = λ k le lt. m.structures v.made k (omega arith) room (omega arith) lt; links = λ k le lt. r.structures.unlinked v.made k (omega arith) room (omega arith) lt; later = λ k le lt. refl });
+          unlinked = λ t k le lt lo hi. r.structures.unlinked t k (omega arith) lt lo hi;
         };
         locks = record {
           holder = r.locks.holder;
@@ -102,18 +105,21 @@ module _ {P : ℕ} {w : Words} {views : List View} (id : ℕ) (v : View) (r : Ru
         timing = record { timed = live_more W (set views id a) b n long (live_same W views id a r.timing.timed (r.timing.timed id v at l)) (λ _. timed_new (w epoch) (acknowledgements w) v.made b.time refl refl refl refl (m.out v.made (omega arith) room)) };
         lasting = record { known = live_more K (set views id a) b n long (live_same K views id a r.lasting.known (r.lasting.known id v at l)) (λ _ name word e. (let no : None ≡ Some word = e in absurd cc)) };
         counted = r.counted;
+        concluded = concluded_split views id v at l r.histories is r.concluded;
+        raised = raised_split r.raised id v at l is;
       }
 
-  -- a pass joins into itself another that holds no lock
-  pub joins : (other : ℕ) (u : View) → get_elem? views other ≡ some u → id ≢ other → u.live ≡ true → u.lock ≡ None → Rule P w (set (set views id (joined v u)) other spent_view)
-  joins other u at' ne lu none_held =
+  -- a pass joins into itself another that is out, holds no lock, and owes nothing
+  pub joins : (other : ℕ) (u : View) → get_elem? views other ≡ some u → id ≢ other → u.live ≡ true → MayBeJoined u → Rule P w (set (set views id (joined v u)) other spent_view)
+  joins other u at' ne lu may =
+      let none_held = may.no_lock in
       let both = joined v u in
       let heap = after P r.log in
       let S = StorageIsOwn (stored w) r.role in
       let O = ObjectsAreOwn heap in
-      let T = StructuresAreOwn (nodes w) in
+      let T = StructuresAreOwn (nodes w) (siblings w) in
       let V = ViewIsSighted P (w epoch) (values w) r.cell r.shape r.role r.now (watched w) r.log r.sights.floor r.sights.sealed r.sights.firer in
-      let K = KnowsLasting r.node r.role in
+      let K = KnowsLasting r.node (siblings w) r.role in
       let W = ViewIsTimed (w epoch) (acknowledgements w) in
       let A = SaysSo r.allowed.flat in
       let G = HoldsItsLock (stored w) r.cell r.now heap r.locks.holder in record {
@@ -135,7 +141,7 @@ module _ {P : ℕ} {w : Words} {views : List View} (id : ℕ) (v : View) (r : Ru
           storage = live_joined S S views id other both spent_view refl r.owned.storage (λ j y n m e ly h. h) (r.owned.storage id v at l);
           objects = live_joined O O views id other both spent_view refl r.owned.objects (λ j y n m e ly h. h) (r.owned.objects id v at l);
         };
-        structures = record { roots = r.structures.roots; own = live_joined T T views id other both spent_view refl r.structures.own (λ j y n m e ly h. h) (r.structures.own id v at l) };
+        structures = record { roots = r.structures.roots; unlinked = r.structures.unlinked; own = live_joined T T views id other both spent_view refl r.structures.own (λ j y n m e ly h. h) (r.structures.own id v at l) };
         locks = record {
           holder = r.locks.holder;
           held = live_joined G G views id other both spent_view refl r.locks.held (λ j y n m e ly h. h) (r.locks.held id v at l);
@@ -163,4 +169,10 @@ module _ {P : ℕ} {w : Words} {views : List View} (id : ℕ) (v : View) (r : Ru
         timing = record { timed = live_joined W W views id other both spent_view refl r.timing.timed (λ j y n m e ly h. h) (r.timing.timed id v at l) };
         lasting = record { known = live_joined K K views id other both spent_view refl r.lasting.known (λ j y n m e ly h. h) (r.lasting.known id v at l) };
         counted = r.counted;
+        concluded = concluded_joined views id other v u at at' l lu r.concluded;
+        raised = raised_joined r.raised id other v u at at' l lu ne may.no_raise may.no_firing;
       }
+
+  -- where objects may not be born flat, each pass that holds no lock may be joined
+  pub may_be_joined : v.flat ≡ false → v.lock ≡ None → MayBeJoined v
+  may_be_joined flat none_held = let q = r.raised.quiet id v at l flat in record { out = q.0; no_lock = none_held; no_raise = q.1; no_firing = q.2 }

@@ -36,6 +36,7 @@ use Rattle.jo_rule.proofs.Owned.{owns_stored, owns_else, other_storage}
 use Rattle.jo_rule.proofs.Locks.{same_locks, writes_locks, one_holder}
 use Rattle.jo_rule.proofs.Moves.{block_roles, held_else, looks, looks_event, stores, stores_else, cases_place}
 use Rattle.jo_rule.proofs.Sights.{sighted_store, sighted_lock}
+use Rattle.jo_rule.proofs.Concluded.{alike_same}
 use Rattle.jo_rule.proofs.Lists.{same_item}
 use Rattle.jo_rule.specs.Spots.{Spot, stored_at}
 use Rattle.jo_rule.proofs.Sets.{number_here, number_else}
@@ -56,7 +57,7 @@ born_cell_by {A} (Some c) e f = f c refl
 module _ {P : ℕ} {w : Words} {views : List View} (id : ℕ) (v : View) (r : Rule P w views) (at : get_elem? views id ≡ some v) (l : v.live ≡ true) where
   -- a load shows the whole log, or as much of it as the pass says
   pub loads : (seen : Log Mark) (counts : Counts) → Begins seen v.past.seen → Begins r.log seen → Rule P w (set views id (with_seen v seen counts))
-  loads seen counts more within = looks id v (with_seen v seen counts) r at l (numbers_of v (with_seen v seen counts) refl refl refl refl refl refl) (record { calls = refl; more = more; seen = within }) refl refl refl refl (r.sights.each id v at l) (r.timing.timed id v at l)
+  loads seen counts more within = looks id v (with_seen v seen counts) r at l (numbers_of v (with_seen v seen counts) refl refl refl refl refl refl) (record { calls = refl; more = more; seen = within }) refl refl refl refl refl refl (r.sights.each id v at l) (r.timing.timed id v at l)
 
   -- what a load of the cell of an object finds that is born in what was seen: the word of a cell, whose owner is the pass that made it
   pub finds_cell : (o : ObjId) → IsBorn (after P v.past.seen) o → (c : Cell) × IsCell c × (w (cell o) ≡ cell_bits c) × (c.owner ≡ o.pass)
@@ -109,13 +110,13 @@ module _ {P : ℕ} {w : Words} {views : List View} (id : ℕ) (v : View) (r : Ru
       let still : changes (after P r.log) v.number call.New ≡ false = rw spent refl in
       let stays : recorded P v.number (Place call.New) r.log ≡ r.log = ap (λ (b : Bool). if b then r.log ++ change v.number call.New ∷ [] else r.log) still in
       let u = with_placed P v (Place call.New) r.log counts in
-      looks_event id v u r at l (numbers_of v u refl refl refl refl refl refl) (Place call.New) (λ c spent e. (let no : Place call.New ≡ Refuse c spent = e in absurd cc)) stays refl refl refl refl refl (r.sights.each id v at l) (r.timing.timed id v at l)
+      looks_event id v u r at l (numbers_of v u refl refl refl refl refl refl) (Place call.New) (λ c spent e. (let no : Place call.New ≡ Refuse c spent = e in absurd cc)) stays refl refl refl refl refl refl refl (r.sights.each id v at l) (r.timing.timed id v at l)
 
   -- a load that places a call which is refused for want of storage
   pub refuses_spent : (c : Call) (spent : Spent) (counts : Counts) → MayPlace P v (Refuse c spent) → Rule P w (set views id (with_placed P v (Refuse c spent) r.log counts))
   refuses_spent c spent counts may =
       let u = with_placed P v (Refuse c spent) r.log counts in
-      looks_event id v u r at l (numbers_of v u refl refl refl refl refl refl) (Refuse c spent) (event_refuses P v (Refuse c spent) r.log (r.histories.own id v at l) may) refl refl refl refl refl refl (r.sights.each id v at l) (r.timing.timed id v at l)
+      looks_event id v u r at l (numbers_of v u refl refl refl refl refl refl) (Refuse c spent) (event_refuses P v (Refuse c spent) r.log (r.histories.own id v at l) may) refl refl refl refl refl refl refl refl (r.sights.each id v at l) (r.timing.timed id v at l)
 
   -- a word of the own storage is stored that no cell has named
   pub fills : (k x : ℕ) (counts : Counts) → v.storage.named ≤ k → k < MOST_STORAGE → Rule P (put w (storage (address_of v.number k)) x) (set views id (with_own_word v k x counts))
@@ -129,7 +130,7 @@ module _ {P : ℕ} {w : Words} {views : List View} (id : ℕ) (v : View) (r : Ru
       let loose : (word : ℕ) → r.role a ≢ fixed word = λ word e. (let no : unnamed ≡ fixed word = sym free ∙ e in absurd cc) in
       let no_value : (o : ObjId) (y : Spot) → r.role a ≢ value o y = λ o y e. (let no : unnamed ≡ value o y = sym free ∙ e in cc) in
       let no_words : (o : ObjId) → r.role a ≢ dictionary o = λ o e. (let no : unnamed ≡ dictionary o = sym free ∙ e in absurd cc) in
-      stores id v u r at l same a x (saw_same r.log v u (r.histories.seen id v at l) refl) refl refl
+      stores id v u r at l same a x (saw_same r.log v u (r.histories.seen id v at l) refl) refl refl refl refl (alike_same refl)
       record {
         loose = loose;
         held = λ o c e f. absurd (no_words o f);
@@ -139,7 +140,7 @@ module _ {P : ℕ} {w : Words} {views : List View} (id : ℕ) (v : View) (r : Ru
       }
       (owns_stored own k x from to)
       (same_locks views id v u at l l refl (λ j y e ly g f s i li. held_else r j y e ly g f a x loose (no_words g.object) s i li) r.locks)
-      (sighted_store (r.sights.each id v at l) (stored_at a) r.contents.words (λ q. cases_place q (stored_at a)) (stores_else w a x) no_value) (r.timing.timed id v at l)
+      (sighted_store (r.sights.each id v at l) (stored_at a) r.contents.words r.contents.valid (λ q. cases_place q (stored_at a)) (stores_else w a x) no_value) (r.timing.timed id v at l)
 
   -- a word of the block of the held dictionary is stored, behind its header
   pub writes : (g : Lock) (k x : ℕ) (counts : Counts) → v.lock ≡ Some g → g.cell.kind ≡ Dictionary → 0 < k → k < block_size g.room → Rule P (put w (storage (g.cell.address + k)) x) (set views id (with_block_word v g k x counts))
@@ -156,7 +157,10 @@ module _ {P : ℕ} {w : Words} {views : List View} (id : ℕ) (v : View) (r : Ru
       let whose : (o : ObjId) → r.role a ≡ dictionary o → g.object ≡ o = λ o e. (let both : dictionary g.object ≡ dictionary o = sym role_is ∙ e in cc) in
       let same = numbers_of v u refl refl refl refl refl refl in
       let size = t.size kind in
-      stores id v u r at l same a x (saw_same r.log v u (r.histories.seen id v at l) refl) refl refl
+      stores id v u r at l same a x (saw_same r.log v u (r.histories.seen id v at l) refl) refl refl refl refl (
+        (λ q cause f e. let one = same_item g q v.lock held f in (g', refl, ap (λ (x : Lock). x.object) one, ap (λ (x : Lock). x.opened) one ∙ e, ap (λ (x : Lock). x.cell.kind) one)),
+        (λ q cause f e. (let both : Some g' ≡ Some q = f in let one : g' ≡ q = cc in (g, held, ap (λ (x : Lock). x.object) one, ap (λ (x : Lock). x.opened) one ∙ e, ap (λ (x : Lock). x.cell.kind) one))),
+      )
       record {
         loose = loose;
         held = λ o c e f. let cell_is : Some g.cell ≡ Some c = sym t.cell ∙ (ap r.cell (whose o f) ∙ e) in let one : g.cell ≡ c = cc in ap (λ (y : Cell). y.locked) (sym one) ∙ t.bit;
@@ -183,5 +187,5 @@ module _ {P : ℕ} {w : Words} {views : List View} (id : ℕ) (v : View) (r : Ru
             ∙ sym (ap (λ (z : ℕ). get_or (set g.block k x) z 0) e ∙ get_or-set_same g.block k x 0 (omega arith)))
             (λ (n : i ≢ k). number_else (stored w) a (g.cell.address + i) x (λ f. n (omega arith)) ∙ (t.block s i li ∙ sym (get_or-set_other g.block k i x 0 n))) (cases_eq i k);
       })
-      (sighted_lock (sighted_store (r.sights.each id v at l) (stored_at a) r.contents.words (λ q. cases_place q (stored_at a)) (stores_else w a x) no_value)
+      (sighted_lock (sighted_store (r.sights.each id v at l) (stored_at a) r.contents.words r.contents.valid (λ q. cases_place q (stored_at a)) (stores_else w a x) no_value)
       (λ h f. let same_lock : g ≡ h = same_item g h v.lock held f in (g', refl, ap (λ (z : Lock). z.object) same_lock, ap (λ (z : Lock). z.cell) same_lock))) (r.timing.timed id v at l)

@@ -12,6 +12,7 @@ use Rattle.jo_value.specs.Words.{IsCell, cell_bits}
 use Rattle.jo_model.specs.Objects.{Object}
 use Rattle.jo_model.specs.Heaps.{object_of}
 use Rattle.jo_model.specs.Logs.{after}
+use Rattle.jo_rule.proofs.Histories.{numbers}
 use Rattle.jo_rule.specs.declared.counts.Counts.{Counts}
 use Rattle.jo_rule.specs.declared.event.Event.{Event}
 use Rattle.jo_rule.specs.declared.event.Event.TheVariants.{Nothing, Refuse}
@@ -29,6 +30,8 @@ use Rattle.jo_rule.specs.Steps.{MayTry, MayRelease, IsFilled, locked_cell, taken
 use Rattle.jo_model.proofs.WellFormed.{object-at}
 use Rattle.jo_model.proofs.ValidEdits.{object_valid}
 use Rattle.jo_rule.proofs.Heaps.{formed-after}
+use Rattle.jo_rule.proofs.Concluded.{alike_unopened, unopened_none, unopened_one, follows_unopened, at_least_same, closed_dictionary, concluded_same, concluded_event}
+use Rattle.jo_rule.proofs.Raised.{as_many, raised_cell}
 use Rattle.jo_rule.proofs.Lists.{set_there, same_item, no_item}
 use Rattle.jo_rule.proofs.Events.{event_touches, event_valid, event_refuses, event_words}
 use Rattle.jo_rule.proofs.Contents.{standing, dictionary_of, as_dictionary, same_properties}
@@ -75,7 +78,7 @@ module _ {P : ℕ} {w : Words} {views : List View} (id : ℕ) (v : View) (r : Ru
   -- a pass that holds no lock tries to take one where it expects an unlocked dictionary, and the exchange finds another word
   pub loses : (o : ObjId) (expected : Cell) (counts : Counts) → MayTry v expected → w (cell o) ≢ cell_bits expected → Rule P w (set views id (with_lost_try v o expected counts))
   loses o expected counts may other =
-      looks id v (with_lost_try v o expected counts) r at l (numbers_of v (with_lost_try v o expected counts) refl refl refl refl refl refl) (saw_same r.log v (with_lost_try v o expected counts) (r.histories.seen id v at l) refl) refl refl refl refl (r.sights.each id v at l) (r.timing.timed id v at l)
+      looks id v (with_lost_try v o expected counts) r at l (numbers_of v (with_lost_try v o expected counts) refl refl refl refl refl refl) (saw_same r.log v (with_lost_try v o expected counts) (r.histories.seen id v at l) refl) refl refl refl refl refl refl (r.sights.each id v at l) (r.timing.timed id v at l)
 
   -- what the holder of a lock knows is the object after the log
   pub holds_content : (g : Lock) → v.lock ≡ Some g → g.settled ≡ true → object_of (after P r.log) g.object ≡ g.content
@@ -120,7 +123,7 @@ module _ {P : ℕ} {w : Words} {views : List View} (id : ℕ) (v : View) (r : Ru
             (λ h f. subst (IsHeld (stored w) (set_object r.cell o (Some c')) (set_object r.now o (r.now o)) (after P r.log) holder id) (let both : Some g ≡ Some h = f in let one : g ≡ h = cc in one) record {
               cell = object_here r.cell o (Some c');
               bit = refl;
-              found = λ z. refl;
+              found = record { unopened = λ z. refl; turned = λ cause z. (let no : None ≡ Some cause = z in absurd cc); keyed = λ z. absurd (both_ways (is_dictionary c.kind) z (ap is_dictionary kind)); block = λ z. absurd (both_ways (is_dictionary c.kind) z (ap is_dictionary kind)) };
               holder_is = object_here r.locks.holder o id;
               settled = ap (λ (x : Now). x.settled) (object_here r.now o (r.now o)) ∙ d.settled;
               sealed = ap (λ (x : Now). x.sealed) (object_here r.now o (r.now o));
@@ -132,7 +135,9 @@ module _ {P : ℕ} {w : Words} {views : List View} (id : ℕ) (v : View) (r : Ru
             (λ q n h f same'. absurd (no_item h v.lock none_held f))
             (λ b. record { view = u; lock = g; there = ap (get_elem? (set views id u)) (object_here r.locks.holder o id) ∙ set_there views id v u at; live = l; held = refl; object = refl }))
             (pins_absent r id o c' (r.now o) r.role (no_pins_settled r o d.settled) (λ i. refl)) (sighted_dropped (r.sights.each id v at l) v.quarantine (stamps_kept (r.sights.each id v at l) o (r.now o) (λ i. refl)))
-            r.so (born_so_cell r.born_so o c' c e refl) (λ h. r.marked.shared o c e h) (counts_dictionary o r.shape c' (ap is_dictionary kind) (λ q n. (refl, refl))) (timed_dropped (r.timing.timed id v at l)),
+            r.so (born_so_cell r.born_so o c' c e refl) (λ h. r.marked.shared o c e h) (counts_dictionary o r.shape c' (ap is_dictionary kind) (λ q n. (refl, refl)))
+            (concluded_same views id v u at l (numbers same) r.concluded (alike_unopened (unopened_none none_held) (unopened_one g refl refl)) refl (at_least_same v.past.calls v.past.calls refl))
+            (raised_cell views id v u at l (numbers same) r.histories r.raised refl refl o (Some c) c' e (as_many r.shape c c' refl refl)) (timed_dropped (r.timing.timed id v at l)),
         record {
           left = refl;
           properties = same_properties (λ k. stored w (c.address + k)) (slice_index block) room content (λ k lo hi. read k hi) (d.properties free);
@@ -185,7 +190,9 @@ module _ {P : ℕ} {w : Words} {views : List View} (id : ℕ) (v : View) (r : Ru
       (moves_locks views id v u at l l o c' now' r.locks.holder r.locks (λ q n. refl) touch.others (λ j y n f ly h k. one_holder views id v u at l l r.locks j y n f ly g h held k)
       (λ h f. (let no : None ≡ Some h = f in absurd cc)) (λ q n h f e. absurd (n (sym e ∙ ap (λ (x : Lock). x.object) (sym (same_item g h v.lock held f))))) (λ b. (let no : false ≡ true = b in absurd cc)))
       (pins_absent r id o c' now' role (no_pins_settled r o d.settled) (λ i. refl)) (sighted_dropped (r.sights.each id v at l) v.quarantine (stamps_kept (r.sights.each id v at l) o now' (λ i. refl)))
-      r.so (born_so_event P v.number event r.log (born_so_cell r.born_so o c' g.cell t.cell refl)) (λ h. r.marked.shared o g.cell t.cell h) (counts_dictionary o r.shape c' (ap is_dictionary kind) (λ q n. event_elsewhere P v.number r.log event o q on n)) (timed_dropped (r.timing.timed id v at l))
+      r.so (born_so_event P v.number event r.log (born_so_cell r.born_so o c' g.cell t.cell refl)) (λ h. r.marked.shared o g.cell t.cell h) (counts_dictionary o r.shape c' (ap is_dictionary kind) (λ q n. event_elsewhere P v.number r.log event o q on n))
+      (concluded_event views id v u at l (numbers same) r.concluded r.histories event (follows_unopened P r.log v.number event (closed_dictionary id v r.concluded at l g held kind)) (unopened_none refl) refl refl)
+      (raised_cell views id v u at l (numbers same) r.histories r.raised refl refl o (Some g.cell) c' t.cell (as_many r.shape g.cell c' refl refl)) (timed_dropped (r.timing.timed id v at l))
 
   -- in the block that was held, whose words have the properties that the event left
   pub releases : (g : Lock) (event : Event) (counts : Counts) → MayRelease P v g event → HasProperties (slice_index g.block) g.room (object_after_event event g.content)

@@ -29,3 +29,7 @@ timed_new E acks number t out polled largest loaded is = record {
 
 pub timing_set : {E : ℕ} {acks : ℕ → ℕ} (views : List View) (id : ℕ) (u : View) → Timing E acks views → ViewIsTimed E acks id u → Timing E acks (set views id u)
 timing_set {E} {acks} views id u r own = record { timed = live_same (ViewIsTimed E acks) views id u r.timed own }
+
+-- the pass owes another number of raises
+pub timed_owing : {E : ℕ} {acks : ℕ → ℕ} {number : ℕ} {t : Time} {sight : Sight} (owed : ℕ) → IsTimed E acks number t sight → IsTimed E acks number (record t { owed = owed }) sight
+timed_owing {E} {acks} {number} {t} {sight} owed h = record { out = h.out; inside = h.inside; polled = h.polled; pins = h.pins; largest = h.largest; loaded = h.loaded }

@@ -18,10 +18,13 @@ pub mod Locks
 pub mod Sights
 pub mod Marked
 pub mod Lasting
+pub mod Opened
 pub mod Counted
 pub mod Timing
 pub mod Allowed
 pub mod Events
+pub mod Concluded
+pub mod Raised
 pub mod Puts
 pub mod Steps
 pub mod Opening

@@ -25,13 +25,14 @@ pub record WasFired (log : Log Mark) (s : Sid) (which : SetKind) : Type 0 where
   pub object : ObjId
   pub is : slice_get log at ≡ Some (mark by (fired s which object))
 
--- How each object came to be what it is. An object is opening or a dictionary exactly where it has its mark or was born so; the second
--- case goes when no object is born so.
+-- How each object came to be what it is. An object is opening or a dictionary exactly where it has its mark or was born so, and never
+-- both; the second case goes when no object is born so.
 pub record BornSo (log : Log Mark) (cells : ObjId → Option Cell) (so : ObjId → Bool) : Type 0 where
   pub dictionaries : (o : ObjId) (c : Cell) → cells o ≡ Some c → is_keyed c.kind ≡ false → (so o ≡ true) ⊎ WasOpened log o
   pub others : (o : ObjId) (c : Cell) → cells o ≡ Some c → is_keyed c.kind ≡ true → so o ≡ false
   pub unopened : (o : ObjId) (c : Cell) → cells o ≡ Some c → is_keyed c.kind ≡ true → WasOpened log o → ⊥
   pub unborn : (o : ObjId) → cells o ≡ None → WasOpened log o → ⊥
+  pub apart : (o : ObjId) → so o ≡ true → WasOpened log o → ⊥
 
 -- A cell has the bit for writes of others, or is segmented, and a set is no longer valid, only where a pass other than the owner left a
 -- mark. A set is no longer valid exactly where it has its mark; the structure of a fired set comes from the root of its object's pass.

@@ -1,6 +1,6 @@
 -- What belongs to a pass alone: storage that no cell has named, objects and structures that are not born.
 pub use Rattle.jo_rule.specs.Roots.{root_node}
-use Rattle.std.specs.Prelude.{◌≡◌, ℕ, ◌+◌, ◌*◌, ◌<◌, ◌≤◌, List, length, Option, None}
+use Rattle.std.specs.Prelude.{◌≡◌, ℕ, ◌+◌, ◌*◌, ◌<◌, ◌≤◌, if◌then◌else◌, List, [], ◌∷◌, length, Option, None}
 use Rattle.jo_value.specs.declared.capacities.TheConstants.{MOST_STRUCTURES, OUT, VALID}
 use Rattle.jo_value.specs.declared.limits.TheConstants.{MOST_STORAGE}
 use Rattle.jo_value.specs.declared.value.ObjId.{ObjId}
@@ -8,7 +8,9 @@ use Rattle.jo_value.specs.declared.value.Sid.{Sid}
 use Rattle.jo_value.specs.declared.words.cell.Cell.{Cell}
 use Rattle.jo_value.specs.Words.{node_bits}
 use Rattle.jo_model.specs.Heaps.{Heap, objects_of}
-use Rattle.jo_rule.specs.Views.{View, Storage, word_in}
+use Rattle.jo_rule.specs.Names.{sibling}
+use Rattle.jo_rule.specs.Areas.{is_same_word}
+use Rattle.jo_rule.specs.Views.{View, Storage, Births, KnownWord, word_in}
 use Rattle.jo_rule.specs.Lists.{Live}
 use Rattle.jo_rule.specs.Contents.{Role, unnamed, root_of}
 
@@ -36,25 +38,37 @@ StorageIsOwn s role seat v = OwnsStorage s role v.number v.storage
 abbrev pub ObjectsAreOwn : Heap → ℕ → View → Type 0
 ObjectsAreOwn heap seat v = v.births.objects ≡ length (objects_of heap v.number)
 
--- the structures that a pass has not made are unborn
-pub record OwnsStructures (nodes : Sid → ℕ) (pass made : ℕ) : Type 0 where
-  pub root : 0 < made
-  pub few : made ≤ MOST_STRUCTURES
-  pub unborn : (k : ℕ) → made ≤ k → k < MOST_STRUCTURES → nodes (structure_of pass k) ≡ 0
+-- what a list of known words says of the sibling link of a structure, which is 0 where it says nothing
+abbrev pub link_in : List KnownWord → Sid → ℕ
+link_in [] s = 0
+link_in (k ∷ known) s = if is_same_word (sibling s) k.at then k.word else link_in known s
+
+-- the structures that a pass has made, and the words that it knows of those to come
+abbrev pub structures_in : Births → ℕ × List KnownWord
+structures_in births = (births.nodes, births.unlinked)
+
+-- The structures that a pass has not made are unborn, and their sibling links are as it knows them; all but the next one's are 0.
+pub record OwnsStructures (nodes siblings : Sid → ℕ) (pass : ℕ) (own : ℕ × List KnownWord) : Type 0 where
+  pub root : 0 < own.0
+  pub few : own.0 ≤ MOST_STRUCTURES
+  pub unborn : (k : ℕ) → own.0 ≤ k → k < MOST_STRUCTURES → nodes (structure_of pass k) ≡ 0
+  pub links : (k : ℕ) → own.0 ≤ k → k < MOST_STRUCTURES → siblings (structure_of pass k) ≡ link_in own.1 (structure_of pass k)
+  pub later : (k : ℕ) → own.0 < k → k < MOST_STRUCTURES → link_in own.1 (structure_of pass k) ≡ 0
 
 -- the structures of a view are its own
-abbrev pub StructuresAreOwn : (Sid → ℕ) → ℕ → View → Type 0
-StructuresAreOwn nodes seat v = OwnsStructures nodes v.number v.births.nodes
+abbrev pub StructuresAreOwn : (Sid → ℕ) → (Sid → ℕ) → ℕ → View → Type 0
+StructuresAreOwn nodes siblings seat v = OwnsStructures nodes siblings v.number (structures_in v.births)
 
 -- each live view has its storage and its objects alone
 pub record Owned (s : ℕ → ℕ) (role : ℕ → Role) (heap : Heap) (views : List View) : Type 0 where
   pub storage : Live views (StorageIsOwn s role)
   pub objects : Live views (ObjectsAreOwn heap)
 
--- each root is there, and each live view has its structures alone
-pub record Structures (passes : ℕ) (nodes : Sid → ℕ) (views : List View) : Type 0 where
+-- Each root is there, and each live view has its structures alone. A pass that was not made has linked none.
+pub record Structures (passes made : ℕ) (nodes siblings : Sid → ℕ) (views : List View) : Type 0 where
   pub roots : (pass : ℕ) → pass < passes → nodes (root_of pass) ≡ node_bits root_node
-  pub own : Live views (StructuresAreOwn nodes)
+  pub own : Live views (StructuresAreOwn nodes siblings)
+  pub unlinked : (t k : ℕ) → made ≤ t → t < passes → 0 < k → k < MOST_STRUCTURES → siblings (structure_of t k) ≡ 0
 
 -- An unborn structure has no child and valid sets, and the words beside the cell of an unborn object are 0.
 pub record Unborn (cells : ObjId → Option Cell) (nodes first_children transition_sets write_sets : Sid → ℕ) (inline_words : ObjId → ℕ → ℕ) : Type 0 where

@@ -13,8 +13,10 @@ use Rattle.jo_rule.specs.declared.event.Event.{Event}
 use Rattle.jo_rule.specs.Dictionaries.{slot_in}
 use Rattle.jo_rule.specs.Shapes.{Shape, names_of, offset_of}
 use Rattle.jo_rule.specs.Spots.{Spot, spot_of}
-use Rattle.jo_rule.specs.Views.{View, Since}
+use Rattle.jo_value.specs.declared.words.cell.Cell.{Cell}
+use Rattle.jo_rule.specs.Views.{View, Since, Licence}
 use Rattle.jo_rule.specs.Counted.{adds_to, removes_from, name_count}
+use Rattle.jo_rule.specs.Concluded.{NotOpened}
 use Rattle.jo_rule.specs.Events.{MayPlace, IsEventOn, object_after_event}
 
 -- the object has another slot at the key, whose word is x; all else of it, and the order of its names, is the same
@@ -24,8 +26,9 @@ pub record PutsIn (z z' : Object) (key : Key) (x : ℕ) : Type 0 where
   pub others : (q : Key) → q ≢ key → property z' q ≡ property z q
 
 -- The event is a call on the object that puts the slot with the word x at the key, where the object has the names of this shape and the
--- word at the key is the one that is there.
+-- word at the key is the one that is there. The pass has no object opened.
 pub record MayPut (passes : ℕ) (v : View) (event : Event) (o : ObjId) (shape : Shape) (key : Key) (word x : ℕ) : Type 0 where
+  pub unopened : NotOpened v.lock
   pub may : MayPlace passes v event
   pub on : IsEventOn o event
   pub puts : (z : Object) → names_of shape ≡ map (λ p. p.0) z.names → word ≡ slot_bits (slot_in (property z key)) → PutsIn z (object_after_event event z) key x
@@ -39,6 +42,12 @@ AllClear passes v e = (q : ℕ) → q < passes → q ≢ v.number → (k : ℕ) 
 abbrev pub names_with : Key → List NameId → List NameId
 names_with (Name name) names = names ++ name ∷ []
 names_with (Index index) names = names
+
+-- An owner adds a key by a store of the cell where its licence relies on both sets. By one on the transition set alone it adds one in the
+-- old block, by an exchange.
+pub record MayGrow (l : Licence) (c : Cell) : Type 0 where
+  pub transitions : l.transitions ≡ true
+  pub place : (l.writes ≡ true) ⊎ (c.address ≡ l.pin.cell.address)
 
 -- the object has a slot more, at a key that it had not, whose word is x
 pub record AddsIn (z z' : Object) (key : Key) (x : ℕ) : Type 0 where
@@ -58,6 +67,7 @@ pub record TakesOut (z z' : Object) (name : NameId) : Type 0 where
 
 -- the event is a call on the object that adds a slot, where the object has the names of this shape
 pub record MayAdd (passes : ℕ) (v : View) (event : Event) (o : ObjId) (shape : Shape) (key : Key) (x : ℕ) : Type 0 where
+  pub unopened : NotOpened v.lock
   pub may : MayPlace passes v event
   pub on : IsEventOn o event
   pub adds : (z : Object) → names_of shape ≡ map (λ p. p.0) z.names → AddsIn z (object_after_event event z) key x
@@ -65,6 +75,7 @@ pub record MayAdd (passes : ℕ) (v : View) (event : Event) (o : ObjId) (shape :
 
 -- the event is a call on the object that takes a name out of it, where the object has the names of this shape
 pub record MayTakeOut (passes : ℕ) (v : View) (event : Event) (o : ObjId) (shape : Shape) (name : NameId) : Type 0 where
+  pub unopened : NotOpened v.lock
   pub may : MayPlace passes v event
   pub on : IsEventOn o event
   pub takes : (z : Object) → names_of shape ≡ map (λ p. p.0) z.names → TakesOut z (object_after_event event z) name

@@ -21,6 +21,8 @@ use Rattle.jo_rule.specs.Timing.{Timing}
 use Rattle.jo_rule.specs.Allowed.{Allowed}
 use Rattle.jo_rule.specs.Lasting.{Lasting}
 use Rattle.jo_rule.specs.Counted.{Counted}
+use Rattle.jo_rule.specs.Concluded.{Concluded}
+use Rattle.jo_rule.specs.Raised.{Raised}
 
 -- There are a log, a count of passes and their homes; for each structure a node and a shape; for each object a cell and a state; and
 -- roles of storage words. No word holds them all, nor does a view. Over them each part holds.
@@ -40,7 +42,7 @@ pub record Rule (passes : ℕ) (w : Words) (views : List View) : Type 0 where
   pub shaped : Shaped passes (nodes w) (first_children w) (siblings w) node shape
   pub contents : Contents passes (values w) cell shape role now (after passes log)
   pub owned : Owned (stored w) role (after passes log) views
-  pub structures : Structures passes (nodes w) views
+  pub structures : Structures passes made (nodes w) (siblings w) views
   pub locks : Locks (stored w) cell now (after passes log) views
   pub unborn : Unborn cell (nodes w) (first_children w) (transition_sets w) (write_sets w) (inline_words w)
   pub unmade : Unmade passes made (acknowledgements w) (nodes w) (stored w) role (after passes log)
@@ -49,5 +51,7 @@ pub record Rule (passes : ℕ) (w : Words) (views : List View) : Type 0 where
   pub marked : Marked log cell shape (watched w)
   pub allowed : Allowed cell views
   pub timing : Timing (w epoch) (acknowledgements w) views
-  pub lasting : Lasting node role views
+  pub lasting : Lasting node (siblings w) role views
   pub counted : Counted passes log cell shape
+  pub concluded : Concluded passes log views
+  pub raised : Raised passes made (w epoch) cell shape (watched w) views

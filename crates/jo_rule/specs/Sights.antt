@@ -14,6 +14,7 @@ use Rattle.jo_value.specs.Words.{IsSlot, slot_bits}
 use Rattle.jo_model.specs.Objects.{property}
 use Rattle.jo_model.specs.Heaps.{object_of}
 use Rattle.jo_model.specs.Logs.{Log, heap_at}
+use Rattle.jo_model.specs.Valid.{IsValidObject}
 use Rattle.jo_rule.specs.declared.watched.SetKind.{SetKind}
 use Rattle.jo_rule.specs.declared.watched.SetKind.TheVariants.{Transition, Write}
 use Rattle.jo_rule.specs.Names.{WordName, transition_set, write_set}
@@ -34,13 +35,15 @@ watched w s Write = w (write_set s)
 
 -- ---- what a pin sees, whatever became of its object
 
--- the word is that of the key's slot in the object, which has one, as some beginning of the log that has at least n entries leaves it
+-- The word is that of the key's slot in the object, which has one, as some beginning of the log that has at least n entries leaves it.
+-- All that the object holds is valid there.
 pub record Valued (passes : ℕ) (log : Log Mark) (o : ObjId) (key : Key) (n word : ℕ) : Type 0 where
   pub at : ℕ
   pub later : n ≤ at
   pub within : at ≤ length log
   pub is : word ≡ slot_bits (slot_in (property (object_of (heap_at passes at log) o) key))
   pub slot : IsSlot (slot_in (property (object_of (heap_at passes at log) o) key))
+  pub valid : IsValidObject (heap_at passes at log) (object_of (heap_at passes at log) o)
 
 -- The structure of a pin comes from the root of the object's pass. It has the names of the object where the pin was made, each at a place,
 -- and each place has the value of its key there or later.

@@ -1,5 +1,5 @@
 -- The table begins with the rule, keeps it where a seat is cut in two or two are joined, and ends with one history.
-use Rattle.std.proofs.Common.{◌≡◌, ℕ, ◌<◌, ◌≤◌, true, List, [], ◌∷◌, ◌++◌, set, refl, sym, ap, ◌∙◌, subst, arith, None}
+use Rattle.std.proofs.Common.{◌≡◌, ℕ, ◌<◌, ◌≤◌, true, false, List, [], ◌∷◌, ◌++◌, set, refl, sym, ap, ◌∙◌, subst, arith, None}
 use Rattle.std.proofs.lemmas.List.{map-set, map-append}
 use mathlib.Core.Option.{some}
 use lib.ListN.{get_elem?}
@@ -14,7 +14,7 @@ use Rattle.jo_rule.specs.Opening.{AreOpening}
 use Rattle.jo_rule.specs.Ending.{HasJoinedAll, HasEnded}
 use Rattle.jo_rule.specs.Histories.{ArePlacedIn}
 use Rattle.jo_rule.proofs.Passes.{nothing_placed}
-use Rattle.jo_rule.proofs.Splits.{splits, joins}
+use Rattle.jo_rule.proofs.Splits.{splits, joins, may_be_joined}
 use Rattle.jo_rule.proofs.Opens.{opens, opening_by_name}
 use Rattle.jo_rule.proofs.Ends.{ends}
 use Rattle.jo_steps.specs.declared.known.Known.{Known}
@@ -39,15 +39,15 @@ cuts P id k live first room s holds there =
     let views = views_more (set s.views id left) right ∙ ap (λ (l : List View). l ++ right.view ∷ []) (views_set s.views id left) in
     record { all = holds.all; rule = subst (Rule P (words_of P s.words)) (sym views) (splits id k.view holds.rule (view_there s.views id k there) live first room) }
 
--- a pass joins into itself another that holds no lock
-pub glues : (P id other : ℕ) (k l : Known) → k.view.live ≡ true → l.view.live ≡ true → l.view.lock ≡ None → Joins (Holds P) id k other l (known_by (joined k.view l.view)) (known_by spent_view)
-glues P id other k l live live' free s holds there apart there' =
+-- a pass joins into itself another that knows dictionaries alone and holds no lock
+pub glues : (P id other : ℕ) (k l : Known) → k.view.live ≡ true → l.view.live ≡ true → l.view.flat ≡ false → l.view.lock ≡ None → Joins (Holds P) id k other l (known_by (joined k.view l.view)) (known_by spent_view)
+glues P id other k l live live' flat free s holds there apart there' =
     let both = known_by (joined k.view l.view) in
     let far = sym (set_else s.views id other both apart) ∙ there' in
     let views = views_set (set s.views id both) other (known_by spent_view) ∙ ap (λ (m : List View). set m other spent_view) (views_set s.views id both) in
     record {
       all = holds.all;
-      rule = subst (Rule P (words_of P s.words)) (sym views) (joins id k.view holds.rule (view_there s.views id k there) live other l.view (view_there s.views other l far) (λ e. apart (sym e)) live' free);
+      rule = subst (Rule P (words_of P s.words)) (sym views) (joins id k.view holds.rule (view_there s.views id k there) live other l.view (view_there s.views other l far) (λ e. apart (sym e)) live' (may_be_joined other l.view holds.rule (view_there s.views other l far) live' flat free));
     }
 
 -- the words of a new heap, and the view of its first pass

@@ -20,7 +20,7 @@ join_seat-requires c =
       ap (λ (x : PassView). x.table) c.from.view_is ∙ (r.passes.1.table ∙ table),
       c.from.invariant.0,
       omega arith,
-      glues c.self.inside.table.shared.key p.id q.id p.me.0 q.me.0 c.into.invariant.1.live c.from.invariant.1.live (ap (λ (x : PassView). x.view.lock) c.from.view_is ∙ r.free),
+      glues c.self.inside.table.shared.key p.id q.id p.me.0 q.me.0 c.into.invariant.1.live c.from.invariant.1.live c.from.invariant.1.dictionaries (ap (λ (x : PassView). x.view.lock) c.from.view_is ∙ r.free),
     )
 
 pub load_by-requires-clause-keeps : goal.load_by-requires-clause-keeps
